@@ -1,0 +1,223 @@
+-- Laws of reading: a field, a prefix of zeros, and what an answer says of the bits.
+-- Assumes nothing.
+use mathlib.Core.Path.{_≡_, refl, sym, ap, ap₂, _∙_, subst}
+use mathlib.Core.Bool.{Bool, true, false, cond}
+use mathlib.Core.List.{List, [], _∷_, _++_, append-assoc}
+use Prim.Native.Nat.{ℕ, zero, suc, _+_, _-_, _*_, _/_, _%_, _^_, _≤_, _<_}
+use native.Mathlib.Nat.{mod-eq-of-lt, add-zero}
+use native.Mathlib.Numerals.{add-one}
+use native.Mathlib.Omega.{arith}
+use native.Mathlib.Decide.{decLe}
+use lib.Dec.{leb}
+use lib.ListN.{length, getD, take, drop, length-append, length-drop, length-replicate, take-append-drop, drop-of-length-le}
+use lib.Seq.{take-at, drop-at, length-take-le, drop-cons, drop-append-seam, drop-drop}
+use borrow.Author.Tests.{le-leb, lt-leb}
+use Rattle.bitstream.specs.Bits.{field, number, bitsOf, zeros}
+use Rattle.bitstream.specs.Reading.{Parsed, got, refused, Reader, readField, readBits, oneMore, zeroPrefix}
+use Rattle.bitstream.specs.Told.{payloadLimit, Outcome, gives, refusal, outcome, within, outcomeAt}
+use Rattle.bitstream.proofs.FieldLaws.{length-field, number-field, number-lt, field-number}
+
+-- ---- a field
+
+module _ (n : ℕ) (bs : List Bool) where
+  pub readField-short : length bs < n → readField n bs ≡ refused 5
+  unfolding readField
+  readField-short h = simp (lt-leb n (length bs) h)
+
+  pub readField-all : n ≤ length bs → readField n bs ≡ got (number (take n bs)) (drop n bs)
+  unfolding readField
+  readField-all h = simp (le-leb n (length bs) h)
+
+  pub readBits-wide : 32 < n → readBits n bs ≡ refused 6
+  unfolding readBits
+  readBits-wide h = simp (lt-leb n 32 h)
+
+  pub readBits-field : n ≤ 32 → readBits n bs ≡ readField n bs
+  unfolding readBits
+  readBits-field h = simp (le-leb n 32 h)
+
+-- a field reads back, whatever follows it
+pub readField-field : (n v : ℕ) (rest : List Bool) → v < 2 ^ n → readField n (field n v ++ rest) ≡ got v rest
+readField-field n v rest h =
+    readField-all n (field n v ++ rest) (omega (arith, length-append (field n v) rest, length-field n v))
+    ∙ ap₂ got (ap number (take-at (field n v) rest n (length-field n v)) ∙ number-field n v ∙ mod-eq-of-lt h) (drop-at (field n v) rest n (length-field n v))
+
+-- whatever reads is that field
+pub field-readField : (n : ℕ) (bs : List Bool) (v : ℕ) (rest : List Bool) → readField n bs ≡ got v rest → (bs ≡ field n v ++ rest) × (v < 2 ^ n)
+field-readField n bs v rest e = go (decLe n (length bs))
+  where
+    go : Dec (n ≤ length bs) → (bs ≡ field n v ++ rest) × (v < 2 ^ n)
+    go (no h) =
+        let s : readField n bs ≡ refused 5 = readField-short n bs (omega arith) in
+        absurd (let z : _≡_ {A = ℕ} 0 1 = cc in omega arith)
+    go (yes h) =
+        let g : got (number (take n bs)) (drop n bs) ≡ got v rest = sym (readField-all n bs h) ∙ e in
+        let ev : number (take n bs) ≡ v = cc in
+        let er : drop n bs ≡ rest = cc in
+        let l : length (take n bs) ≡ n = length-take-le n bs h in
+        let back : field n v ≡ take n bs = ap₂ field (sym l) (sym ev) ∙ field-number (take n bs) in (
+          sym (ap₂ (λ (a b : List Bool). a ++ b) back (sym er) ∙ take-append-drop n bs),
+          subst (λ (x : ℕ). x < 2 ^ n) ev (subst (λ (i : ℕ). number (take n bs) < 2 ^ i) l (number-lt (take n bs))),
+        )
+
+-- ---- a prefix of zeros
+
+pub zeroPrefix-zeros : (cap z : ℕ) (rest : List Bool) → z ≤ cap → zeroPrefix cap (zeros z ++ true ∷ rest) ≡ got z rest
+unfolding zeroPrefix
+zeroPrefix-zeros cap zero rest h = refl
+zeroPrefix-zeros zero (suc z) rest h = absurd (omega arith)
+zeroPrefix-zeros (suc cap) (suc z) rest h = ap oneMore (zeroPrefix-zeros cap z rest (omega arith))
+
+oneMore-got : (x : Parsed) (z : ℕ) (rest : List Bool) → oneMore x ≡ got z rest → (y : ℕ) × (x ≡ got y rest) × (z ≡ suc y)
+oneMore-got (got y t) z rest e = (y, (cc), (cc))
+oneMore-got (refused k) z rest e = absurd (let w : _≡_ {A = ℕ} 0 1 = cc in omega arith)
+
+pub zeros-zeroPrefix : (cap : ℕ) (bs : List Bool) (z : ℕ) (rest : List Bool) → zeroPrefix cap bs ≡ got z rest → (bs ≡ zeros z ++ true ∷ rest) × (z ≤ cap)
+unfolding zeroPrefix
+zeros-zeroPrefix cap [] z rest e = absurd (let w : _≡_ {A = ℕ} 0 1 = cc in omega arith)
+zeros-zeroPrefix cap (true ∷ bs) z rest e =
+    let p : 0 ≡ z = cc in
+    let q : bs ≡ rest = cc in
+    (ap₂ (λ (i : ℕ) (r : List Bool). zeros i ++ true ∷ r) p q, omega arith)
+zeros-zeroPrefix zero (false ∷ bs) z rest e = absurd (let w : _≡_ {A = ℕ} 0 1 = cc in omega arith)
+zeros-zeroPrefix (suc cap) (false ∷ bs) z rest e =
+    let m = oneMore-got (zeroPrefix cap bs) z rest e in
+    let ih = zeros-zeroPrefix cap bs (m .0) rest (m .1) in
+    (ap {B = List Bool} (λ r. false ∷ r) (ih .0) ∙ ap (λ (i : ℕ). zeros i ++ true ∷ rest) (sym (m .2)), omega (arith, m .2, ih .1))
+
+-- one bit at a time, at bit j
+module _ (B : List Bool) (j cap : ℕ) where
+  next : j < length B → (b : Bool) → getD B j false ≡ b → drop j B ≡ b ∷ drop (j + 1) B
+  next h b e = drop-cons B j false h ∙ ap₂ (λ (x : Bool) (n : ℕ). x ∷ drop n B) e (sym (add-one j))
+
+  pub zeroPrefix-end : length B ≤ j → zeroPrefix cap (drop j B) ≡ refused 5
+  unfolding zeroPrefix
+  zeroPrefix-end h = ap (zeroPrefix cap) (drop-of-length-le B h)
+
+  pub zeroPrefix-one : j < length B → getD B j false ≡ true → zeroPrefix cap (drop j B) ≡ got 0 (drop (j + 1) B)
+  unfolding zeroPrefix
+  zeroPrefix-one h e = ap (zeroPrefix cap) (next h true e)
+
+  pub zeroPrefix-full : j < length B → getD B j false ≡ false → cap ≡ 0 → zeroPrefix cap (drop j B) ≡ refused 6
+  unfolding zeroPrefix
+  zeroPrefix-full h e z = ap₂ zeroPrefix z (next h false e)
+
+  pub zeroPrefix-more : j < length B → getD B j false ≡ false → 0 < cap → zeroPrefix cap (drop j B) ≡ oneMore (zeroPrefix (cap - 1) (drop (j + 1) B))
+  unfolding zeroPrefix
+  zeroPrefix-more h e z = let f : cap ≡ suc (cap - 1) = omega arith in ap₂ zeroPrefix f (next h false e)
+
+-- ---- the count of zeros, as a loop goes on with it
+
+abbrev pub counted : ℕ → Parsed → Parsed
+counted q (got z t) = got (q + z) t
+counted q (refused k) = refused k
+
+counted-none : (x : Parsed) → x ≡ counted 0 x
+counted-none (got z t) = let e : z ≡ 0 + z = omega arith in ap (λ (n : ℕ). got n t) e
+counted-none (refused k) = refl
+
+counted-more : (q : ℕ) (x : Parsed) → counted q (oneMore x) ≡ counted (q + 1) x
+counted-more q (got z t) = let e : q + suc z ≡ q + 1 + z = omega arith in ap (λ (n : ℕ). got n t) e
+counted-more q (refused k) = refl
+
+-- the bits from p up to bit at are zeros that were passed
+module _ (B : List Bool) (p cap : ℕ) where
+  abbrev pub Passed : ℕ → Type 0
+  Passed at = zeroPrefix cap (drop p B) ≡ counted (at - p) (zeroPrefix (cap - (at - p)) (drop at B))
+
+  pub passed-none : Passed p
+  passed-none =
+      let z : 0 ≡ p - p = omega arith in
+      let f : cap ≡ cap - (p - p) = omega arith in
+      ap (λ (k : ℕ). zeroPrefix k (drop p B)) f ∙ counted-none (zeroPrefix (cap - (p - p)) (drop p B))
+      ∙ ap (λ (k : ℕ). counted k (zeroPrefix (cap - (p - p)) (drop p B))) z
+
+  module _ (at : ℕ) (low : p ≤ at) (E : Passed at) where
+    pub passed-one : at < length B → getD B at false ≡ true → gives (at - p) (at + 1) ≡ outcome p (drop p B) (zeroPrefix cap (drop p B))
+    passed-one h b =
+        let z : at - p + 0 ≡ at - p = omega arith in
+        let n : p + (length (drop p B) - length (drop (at + 1) B)) ≡ at + 1 = omega (arith, length-drop p B, length-drop (at + 1) B) in
+        sym (ap (outcome p (drop p B)) (E ∙ ap (counted (at - p)) (zeroPrefix-one B at (cap - (at - p)) h b)) ∙ ap₂ gives z n)
+
+    pub passed-full : at < length B → getD B at false ≡ false → cap ≤ at - p → refusal 6 ≡ outcome p (drop p B) (zeroPrefix cap (drop p B))
+    passed-full h b e = sym (ap (outcome p (drop p B)) (E ∙ ap (counted (at - p)) (zeroPrefix-full B at (cap - (at - p)) h b (omega arith))))
+
+    pub passed-end : length B ≤ at → refusal 5 ≡ outcome p (drop p B) (zeroPrefix cap (drop p B))
+    passed-end h = sym (ap (outcome p (drop p B)) (E ∙ ap (counted (at - p)) (zeroPrefix-end B at (cap - (at - p)) h)))
+
+    pub passed-more : at < length B → getD B at false ≡ false → at - p < cap → Passed (at + 1)
+    passed-more h b l =
+        let e : cap - (at - p) - 1 ≡ cap - (at + 1 - p) = omega arith in
+        let q : at - p + 1 ≡ at + 1 - p = omega arith in
+        E ∙ ap (counted (at - p)) (zeroPrefix-more B at (cap - (at - p)) h b (omega arith))
+        ∙ counted-more (at - p) (zeroPrefix (cap - (at - p) - 1) (drop (at + 1) B))
+        ∙ ap₂ (λ (x y : ℕ). counted x (zeroPrefix y (drop (at + 1) B))) q e
+
+-- ---- what an answer says
+
+pub within-fits : (s : List ℕ) (x : Outcome) → length s ≤ payloadLimit → within s x ≡ x
+unfolding within
+within-fits s x h = simp (le-leb (length s) payloadLimit h)
+
+pub within-long : (s : List ℕ) (x : Outcome) → payloadLimit < length s → within s x ≡ refusal 1
+unfolding within
+within-long s x h = simp (lt-leb (length s) payloadLimit h)
+
+-- A reader takes bits off the front of what is unread.
+pub record Takes (m : Reader) : Type 0 where
+  pub off : (bs : List Bool) (v : ℕ) (rest : List Bool) → m bs ≡ got v rest → (pre : List Bool) × (bs ≡ pre ++ rest)
+
+pub readField-takes : (n : ℕ) → Takes (readField n)
+readField-takes n = record { off = λ bs v rest e. (field n v, field-readField n bs v rest e .0) }
+
+pub readBits-takes : (n : ℕ) → Takes (readBits n)
+readBits-takes n = record { off = λ bs v rest e. go bs v rest e (decLe n 32) }
+  where
+    go : (bs : List Bool) (v : ℕ) (rest : List Bool) → readBits n bs ≡ got v rest → Dec (n ≤ 32) → (pre : List Bool) × (bs ≡ pre ++ rest)
+    go bs v rest e (yes h) = readField-takes n .off bs v rest (sym (readBits-field n bs h) ∙ e)
+    go bs v rest e (no h) =
+        let s : readBits n bs ≡ refused 6 = readBits-wide n bs (omega arith) in
+        absurd (let z : _≡_ {A = ℕ} 0 1 = cc in omega arith)
+
+pub zeroPrefix-takes : (cap : ℕ) → Takes (zeroPrefix cap)
+zeroPrefix-takes cap = record { off = λ bs v rest e. (zeros v ++ (true ∷ []), zeros-zeroPrefix cap bs v rest e .0 ∙ sym (seam v rest)) }
+  where
+    seam : (v : ℕ) (rest : List Bool) → (zeros v ++ (true ∷ [])) ++ rest ≡ zeros v ++ true ∷ rest
+    seam v rest = simp append-assoc
+
+-- the reader m at bit p of a payload that is not too long
+module _ (m : Reader) (s : List ℕ) (p : ℕ) where
+  pub outcomeAt-fits : length s ≤ payloadLimit → outcomeAt m s p ≡ outcome p (drop p (bitsOf s)) (m (drop p (bitsOf s)))
+  unfolding outcomeAt
+  outcomeAt-fits h = within-fits s (outcome p (drop p (bitsOf s)) (m (drop p (bitsOf s)))) h
+
+  pub outcomeAt-long : payloadLimit < length s → outcomeAt m s p ≡ refusal 1
+  unfolding outcomeAt
+  outcomeAt-long h = within-long s (outcome p (drop p (bitsOf s)) (m (drop p (bitsOf s)))) h
+
+  -- a refusal that was told is the reader's
+  pub told-refused : length s ≤ payloadLimit → (k : ℕ) → refusal k ≡ outcomeAt m s p → m (drop p (bitsOf s)) ≡ refused k
+  told-refused h k e = go (m (drop p (bitsOf s))) (e ∙ outcomeAt-fits h)
+    where
+      go : (x : Parsed) → refusal k ≡ outcome p (drop p (bitsOf s)) x → x ≡ refused k
+      go (got v rest) f = absurd (let z : _≡_ {A = ℕ} 0 1 = cc in omega arith)
+      go (refused j) f = cc
+
+  -- a value that was told is the reader's, and what is then unread begins at the next position
+  pub told-got : Takes m → length s ≤ payloadLimit → (v q : ℕ) → gives v q ≡ outcomeAt m s p
+      → (m (drop p (bitsOf s)) ≡ got v (drop q (bitsOf s))) × (p ≤ q) × (q - p ≤ length (drop p (bitsOf s)))
+  told-got takes h v q e = go (m (drop p (bitsOf s))) refl (e ∙ outcomeAt-fits h)
+    where
+      go : (x : Parsed) → m (drop p (bitsOf s)) ≡ x → gives v q ≡ outcome p (drop p (bitsOf s)) x
+          → (x ≡ got v (drop q (bitsOf s))) × (p ≤ q) × (q - p ≤ length (drop p (bitsOf s)))
+      go (refused j) r f = absurd (let z : _≡_ {A = ℕ} 0 1 = cc in omega arith)
+      go (got w rest) r f =
+          let t = takes .off (drop p (bitsOf s)) w rest r in
+          let pre : List Bool = t .0 in
+          let same : v ≡ w = cc in
+          let at : q ≡ p + (length (drop p (bitsOf s)) - length rest) = cc in
+          let len : length (drop p (bitsOf s)) ≡ length pre + length rest = ap length (t .1) ∙ length-append pre rest in
+          let nxt : p + length pre ≡ q = omega arith in
+          let unread : rest ≡ drop q (bitsOf s) =
+          sym (drop-append-seam pre rest) ∙ ap (drop (length pre)) (sym (t .1)) ∙ drop-drop (length pre) p (bitsOf s) ∙ ap (λ (k : ℕ). drop k (bitsOf s)) nxt in
+          (ap₂ got (sym same) unread, omega arith, omega arith)

@@ -1,0 +1,5 @@
+pub mod Bits
+pub mod Bytes
+pub mod Reading
+pub mod Told
+pub mod Puts

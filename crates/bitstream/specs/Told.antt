@@ -1,0 +1,50 @@
+-- What the answers of the code say, by document 01's numbers ("Refusal numbers"), and what they are to say.
+use Prim.Native.Nat.{ℕ, _+_, _-_}
+use mathlib.Core.Bool.{Bool, cond}
+use mathlib.Core.List.{List}
+use lib.Dec.{leb}
+use lib.ListN.{length, drop}
+use Rattle.bitstream.specs.Bits.{bitsOf}
+use Rattle.bitstream.specs.Reading.{Parsed, got, refused, Reader}
+use Rattle.bitstream.specs.declared.Cursor.{Cursor}
+use Rattle.bitstream.specs.declared.Refusal.{Refusal}
+use Rattle.bitstream.specs.declared.Refusal.the-variants.{Limit, Short, Codeword, Overrun, Range, LongRun, AlphaOverrun, Tail, Padding}
+use Rattle.bitstream.specs.declared.Read.{Read}
+use Rattle.bitstream.specs.declared.Read.the-variants.{Value, No}
+
+-- a payload to decode has at most this many bytes
+abbrev pub payloadLimit : ℕ
+payloadLimit = 65536
+
+abbrev pub numberOf : Refusal → ℕ
+numberOf Limit = 1
+numberOf Short = 5
+numberOf Codeword = 6
+numberOf Overrun = 7
+numberOf Range = 8
+numberOf LongRun = 9
+numberOf AlphaOverrun = 10
+numberOf Tail = 11
+numberOf Padding = 12
+
+-- a value and the bit after it, or the number of a refusal
+pub data Outcome : Type 0 where
+  gives : ℕ → ℕ → Outcome
+  refusal : ℕ → Outcome
+
+abbrev pub told : Read → Outcome
+told (Value v c) = gives v (c .at)
+told (No r) = refusal (numberOf r)
+
+-- reading began at bit p, where bs was unread
+abbrev pub outcome : ℕ → List Bool → Parsed → Outcome
+outcome p bs (got v rest) = gives v (p + (length bs - length rest))
+outcome p bs (refused k) = refusal k
+
+-- the outcome x, of a payload that is not too long
+unfoldable pub within : List ℕ → Outcome → Outcome
+within s x = cond (leb (length s) payloadLimit) x (refusal 1)
+
+-- the reader m at bit p of a payload
+unfoldable pub outcomeAt : Reader → List ℕ → ℕ → Outcome
+outcomeAt m s p = within s (outcome p (drop p (bitsOf s)) (m (drop p (bitsOf s))))

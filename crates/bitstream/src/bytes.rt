@@ -1,7 +1,7 @@
 // Whole bytes into a lent buffer.
 ghost use mathlib.Core.Path.{_≡_};
-ghost use Prim.Native.Nat.{ℕ, _+_, _*_, _/_, _%_, _^_, _≤_, _<_};
-ghost use lib.ListN.{length, take, getD};
+ghost use Prim.Native.Nat.{ℕ, _+_, _-_, _*_, _/_, _%_, _^_, _≤_, _<_};
+ghost use lib.ListN.{length, take, getD, set};
 ghost use Rattle.bitstream.specs.Bits.{field};
 ghost use Rattle.bitstream.specs.Puts.{storedFrom, Begun};
 
@@ -18,6 +18,14 @@ pub fn begun(buf: &[u8], at: usize) -> u64
     (buf[i] as u64) >> (8 - r)
 }
 
+// A byte of the code, over whatever stood there.
+fn store(buf: &mut [u8], j: usize, b: u64)
+    requires { ⌜ (j < length (now buf)) × (b < 256) ⌝ }
+    ensures { λ _. ⌜ now (buf .exit) ≡ set (now (buf .entry)) j b ⌝ }
+{
+    buf[j] = b as u8;
+}
+
 // Writes the n low bits of word from byte i on, with zero bits up to a byte.
 pub fn emit(buf: &mut [u8], i: usize, word: u64, n: u32)
     requires { ⌜ (n ≤ 64) × (8 * i + n ≤ 8 * length (now buf)) ⌝ }
@@ -27,10 +35,10 @@ pub fn emit(buf: &mut [u8], i: usize, word: u64, n: u32)
     let mut left = n;
     while 8 <= left {
         left -= 8;
-        buf[j] = ((word >> left) % 256) as u8;
+        store(buf, j, (word >> left) % 256);
         j += 1;
     }
     if 0 < left {
-        buf[j] = ((word << (8 - left)) % 256) as u8;
+        store(buf, j, (word << (8 - left)) % 256);
     }
 }

@@ -29,7 +29,7 @@ pow2-requires : tie.Need-pow2-requires
 pow2-requires c κs = search needs
 
 rem-if2 : tie.Need-rem-if2
-rem-if2 c = let a = c .before .before .before .before .before .args in omega (arith, c .pow2 .ensures, pow-pos (8 - a .self .at % 8))
+rem-if2 c = rw (c .pow2 .ensures) (pow-pos (8 - c .before .before .before .before .before .args .self .at % 8))
 
 returns-2 : tie.Need-returns-2
 returns-2 c =

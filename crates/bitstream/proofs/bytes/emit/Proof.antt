@@ -2,9 +2,10 @@
 -- contract's buffer. The measure is how many bits are left.
 -- Assumes nothing.
 use mathlib.Core.Path.{_≡_, refl, sym, ap, _∙_}
+use mathlib.Core.List.{List}
 use Prim.Native.Nat.{ℕ, _+_, _-_, _*_, _/_, _%_, _^_, _≤_}
 use native.Mathlib.Omega.{arith}
-use lib.ListN.{length, set, length-set}
+use lib.ListN.{length, set}
 use Rattle.bitstream.specs.Bits.{field}
 use Rattle.bitstream.specs.Puts.{storedFrom}
 use Rattle.bitstream.proofs.FieldLaws.{field-split}
@@ -22,17 +23,14 @@ abbrev μ-loop : tie.MeasureT-loop
 loop-holds : tie.Need-loop-holds Inv-loop μ-loop
 loop-holds c = (refl, refl, omega arith, omega arith)
 
-cast-buf : tie.Need-cast-buf Inv-loop μ-loop
-cast-buf c = omega arith
+cast-store : tie.Need-cast-store Inv-loop μ-loop
+cast-store c = omega arith
 
-shr-buf : tie.Need-shr-buf Inv-loop μ-loop
-shr-buf c = omega arith
+shr-store : tie.Need-shr-store Inv-loop μ-loop
+shr-store c = omega arith
 
-cast-buf-2 : tie.Need-cast-buf-2 Inv-loop μ-loop
-cast-buf-2 c = omega arith
-
-slice-write-buf : tie.Need-slice-write-buf Inv-loop μ-loop
-slice-write-buf c = omega arith
+store-requires : tie.Need-store-requires Inv-loop μ-loop
+store-requires c κs = omega arith
 
 add-j : tie.Need-add-j Inv-loop μ-loop
 add-j c = omega arith
@@ -42,43 +40,43 @@ loop-less c = omega arith
 
 loop-again : tie.Need-loop-again Inv-loop μ-loop
 loop-again c =
-    let at = c .before .loop in
-    let word = c .before .before .args .word in
+    let at = c .before .before .before .before .before .loop in
+    let word = c .before .before .before .before .before .before .before .args .word in
+    let w = c .before .before .store in
     let l : ℕ = at .left - 8 in
     let e : 8 + l ≡ at .left = omega arith in (
-      sym (from-byte (at .buf) (at .j) (word / 2 ^ l) (field l word) (omega arith))
+      ap (λ (b : List ℕ). storedFrom b (at .j + 1) (field l word)) (w .ensures)
+          ∙ sym (from-byte (at .buf) (at .j) (word / 2 ^ l) (field l word) (omega arith))
           ∙ ap (storedFrom (at .buf) (at .j)) (sym (field-split 8 l word) ∙ ap (λ (k : ℕ). field k word) e)
           ∙ at .inv .0,
-      simp length-set (at .inv .1),
-      simp length-set (omega arith),
+      omega (arith, w .kept),
+      omega (arith, w .kept),
       omega arith,
     )
 
-sub-buf : tie.Need-sub-buf Inv-loop μ-loop
-sub-buf c = omega arith
+sub-store : tie.Need-sub-store Inv-loop μ-loop
+sub-store c = omega arith
 
-cast-buf-3 : tie.Need-cast-buf-3 Inv-loop μ-loop
-cast-buf-3 c = omega arith
+cast-store-2 : tie.Need-cast-store-2 Inv-loop μ-loop
+cast-store-2 c = omega arith
 
-shl-buf : tie.Need-shl-buf Inv-loop μ-loop
-shl-buf c = omega arith
+shl-store : tie.Need-shl-store Inv-loop μ-loop
+shl-store c = omega arith
 
-cast-buf-4 : tie.Need-cast-buf-4 Inv-loop μ-loop
-cast-buf-4 c = omega arith
-
-slice-write-buf-2 : tie.Need-slice-write-buf-2 Inv-loop μ-loop
-slice-write-buf-2 c = omega arith
+store-requires-2 : tie.Need-store-requires-2 Inv-loop μ-loop
+store-requires-2 c κs = omega arith
 
 same-length : tie.Need-same-length Inv-loop μ-loop
-same-length c = simp length-set (c .before .before .loop .inv .1)
+same-length c = omega (arith, c .before .before .store2 .kept)
 
 returns : tie.Need-returns Inv-loop μ-loop
 returns c =
-    let at = c .before .before .loop in
-    let word = c .before .before .before .args .word in
+    let at = c .before .before .before .before .before .before .loop in
+    let word = c .before .before .before .before .before .before .before .before .args .word in
     let x : ℕ = word * 2 ^ (8 - at .left) in
     let m : x % 18446744073709551616 % 256 ≡ x % 256 = omega arith in
-    ap (set (at .buf) (at .j)) m
+    c .before .before .store2 .ensures
+    ∙ ap (set (at .buf) (at .j)) m
     ∙ sym (from-last (at .buf) (at .j) (at .left) word (omega arith) (omega arith) (omega arith))
     ∙ at .inv .0
 
@@ -89,7 +87,7 @@ returns-2 : tie.Need-returns-2 Inv-loop μ-loop
 unfolding field
 returns-2 c =
     let at = c .before .before .loop in
-    let word = c .before .before .before .args .word in
+    let word = c .before .before .before .before .args .word in
     let z : 0 ≡ at .left = omega arith in
     sym (from-none (at .buf) (at .j)) ∙ ap (λ (k : ℕ). storedFrom (at .buf) (at .j) (field k word)) z ∙ at .inv .0
 
@@ -100,18 +98,16 @@ emit-spec =
     Inv-loop
     μ-loop
     loop-holds
-    cast-buf
-    shr-buf
-    cast-buf-2
-    slice-write-buf
+    cast-store
+    shr-store
+    store-requires
     add-j
     loop-less
     loop-again
-    sub-buf
-    cast-buf-3
-    shl-buf
-    cast-buf-4
-    slice-write-buf-2
+    sub-store
+    cast-store-2
+    shl-store
+    store-requires-2
     same-length
     returns
     same-length-2

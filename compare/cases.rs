@@ -1,0 +1,101 @@
+// Bytes and places to try, and the memory that they are lent from.
+use crate::random::Random;
+
+/// The longest payload or buffer that document 01 allows.
+pub const LIMIT: usize = 65_536;
+
+const GUARD: usize = 16;
+
+/// Bytes to lend, between guard bytes: a reader that goes past them would find 1 bits, and a writer
+/// that does would change them.
+pub struct Lent {
+    room: Vec<u8>,
+}
+
+impl Lent {
+    pub fn new(bytes: &[u8]) -> Self {
+        let mut lent = Lent { room: Vec::new() };
+        lent.set(bytes);
+        lent
+    }
+
+    pub fn set(&mut self, bytes: &[u8]) {
+        self.room.clear();
+        self.room.resize(GUARD, 0xff);
+        self.room.extend_from_slice(bytes);
+        self.room.resize(bytes.len() + 2 * GUARD, 0xff);
+    }
+
+    pub fn bytes(&self) -> &[u8] {
+        &self.room[GUARD..self.room.len() - GUARD]
+    }
+
+    pub fn bytes_mut(&mut self) -> &mut [u8] {
+        let end = self.room.len() - GUARD;
+        &mut self.room[GUARD..end]
+    }
+
+    pub fn guards_stand(&self) -> bool {
+        let (before, rest) = self.room.split_at(GUARD);
+        before.iter().chain(&rest[rest.len() - GUARD..]).all(|&byte| byte == 0xff)
+    }
+}
+
+/// Every string of this many bytes.
+pub fn every(bytes: usize) -> impl Iterator<Item = Vec<u8>> {
+    (0..1u64 << (8 * bytes)).map(move |number| number.to_be_bytes()[8 - bytes..].to_vec())
+}
+
+/// Mostly up to 40 bytes, now and then as long as the limit or one more.
+pub fn random_bytes(random: &mut Random, bytes: &mut Vec<u8>) {
+    let length = match random.below(500) {
+        0 => random.pick(&[LIMIT - 1, LIMIT, LIMIT, LIMIT + 1, LIMIT + 1]),
+        1..=249 => random.below(11) as usize,
+        _ => random.below(41) as usize,
+    };
+    bytes.clear();
+    match random.below(8) {
+        // no 1 at all, or a single one: the longest runs of zeros
+        0 => bytes.resize(length, 0),
+        1 | 2 => {
+            bytes.resize(length, 0);
+            if length > 0 {
+                bytes[random.below(length as u64) as usize] = 1 << random.below(8);
+            }
+        }
+        3 => bytes.resize(length, 0xff),
+        // few 1s
+        4 | 5 => bytes.extend((0..length).map(|_| if random.once_in(8) { 1 << random.below(8) } else { 0 })),
+        _ => bytes.extend((0..length).map(|_| random.next() as u8)),
+    }
+}
+
+/// A bit position in so many bytes: anywhere, around the end, or far behind it.
+pub fn random_place(random: &mut Random, length: usize) -> usize {
+    let end = 8 * length;
+    match random.below(16) {
+        0 => random.pick(&[
+            usize::MAX,
+            usize::MAX - 1,
+            usize::MAX - 56,
+            usize::MAX / 2 + 1,
+            (1 << 61) - 1,
+            1 << 61,
+            (1 << 61) + 1,
+            1 << 32,
+            8 * LIMIT + 1,
+        ]),
+        1..=6 => (end + 3).saturating_sub(random.below(70) as usize),
+        _ => random.below(end as u64 + 3) as usize,
+    }
+}
+
+/// Bytes in words: all of them where there are few, else the length and both ends.
+pub fn shown(bytes: &[u8]) -> String {
+    let hex = |part: &[u8]| part.iter().map(|byte| format!("{:02x}", byte)).collect::<Vec<_>>().join(" ");
+    match bytes.len() {
+        0 => "no bytes".to_string(),
+        1..=64 => hex(bytes),
+        length => format!("{} bytes {} .. {}", length, hex(&bytes[..8]), hex(&bytes[length - 8..])),
+    }
+}

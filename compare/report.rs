@@ -1,0 +1,167 @@
+// What the driver tells: for each function how many cases it was held to, what differed, and of that
+// the smallest case alone, since a fault of the code shows in thousands of cases and the smallest says
+// the most.
+use std::fmt::Display;
+use std::panic::{catch_unwind, AssertUnwindSafe};
+
+/// How large a case is: the first of these counts most.
+#[derive(Clone, Copy, PartialEq, Eq, PartialOrd, Ord)]
+pub struct Size {
+    pub bytes: usize,
+    pub at: usize,
+    pub width: u64,
+}
+
+#[derive(Clone, Copy, PartialEq, Eq)]
+pub enum Verdict {
+    Equal,
+    /// Another answer, and exactly where docs/DIFFERENCES.md says so.
+    Listed,
+    Differs,
+    /// The oracle panicked.
+    Fault,
+}
+
+/// The oracles, in the order in which a check keeps them.
+pub const ORACLES: [&str; 2] = ["the Rust over plain bits", "the Rust over bitstream.rs"];
+pub const PLAIN: usize = 0;
+pub const REAL: usize = 1;
+
+/// The highest refusal number that a check can count.
+const NUMBERS: usize = 32;
+
+#[derive(Default)]
+struct Against {
+    listed: u64,
+    differ: u64,
+    faults: u64,
+    smallest: Option<(Size, String)>,
+}
+
+/// One function of the proved code, held to both oracles.
+pub struct Check {
+    name: &'static str,
+    /// The numbers that this function can answer (0: done). Each must be met in a run.
+    numbers: &'static [u32],
+    /// Whether a listed difference must be met too.
+    listed: bool,
+    cases: u64,
+    met: [u64; NUMBERS],
+    against: [Against; 2],
+}
+
+impl Check {
+    pub fn new(name: &'static str, numbers: &'static [u32]) -> Self {
+        Check { name, numbers, listed: false, cases: 0, met: [0; NUMBERS], against: Default::default() }
+    }
+
+    pub fn with_listed_difference(self) -> Self {
+        Check { listed: true, ..self }
+    }
+
+    /// Counts a case, by the number that the proved code answered.
+    pub fn count(&mut self, number: u32) {
+        self.cases += 1;
+        self.met[(number as usize).min(NUMBERS - 1)] += 1;
+    }
+
+    /// Keeps a verdict, and the text of the case if no smaller one had this kind of fault.
+    pub fn judge(&mut self, oracle: usize, size: Size, verdict: Verdict, tell: impl FnOnce() -> String) {
+        let against = &mut self.against[oracle];
+        match verdict {
+            Verdict::Equal => return,
+            Verdict::Listed => return against.listed += 1,
+            Verdict::Differs => against.differ += 1,
+            Verdict::Fault => against.faults += 1,
+        }
+        if against.smallest.as_ref().map_or(true, |(smallest, _)| size < *smallest) {
+            against.smallest = Some((size, tell()));
+        }
+    }
+
+    /// Counts a case and holds the answer to that of each oracle; no answer means that it panicked.
+    pub fn hold<T: PartialEq + Display>(
+        &mut self,
+        size: Size,
+        number: u32,
+        ours: &T,
+        theirs: [Option<T>; 2],
+        case: impl Fn() -> String,
+    ) {
+        self.count(number);
+        for (oracle, their) in theirs.iter().enumerate() {
+            let verdict = match their {
+                None => Verdict::Fault,
+                Some(their) if their == ours => Verdict::Equal,
+                Some(_) => Verdict::Differs,
+            };
+            self.judge(oracle, size, verdict, || told(case(), ours, their));
+        }
+    }
+}
+
+/// A case in words, with both answers.
+pub fn told<T: Display>(case: String, ours: &T, theirs: &Option<T>) -> String {
+    let theirs = theirs.as_ref().map_or("panicked".to_string(), |their| their.to_string());
+    format!("{}\n        proved code: {}\n        oracle:      {}", case, ours, theirs)
+}
+
+/// What the oracle gives, or nothing if it panics.
+pub fn guarded<T>(ask: impl FnOnce() -> T) -> Option<T> {
+    catch_unwind(AssertUnwindSafe(ask)).ok()
+}
+
+#[derive(Default)]
+pub struct Report {
+    passed: u64,
+    failed: u64,
+}
+
+impl Report {
+    fn note(&mut self, passed: bool) {
+        if passed {
+            self.passed += 1;
+        } else {
+            self.failed += 1;
+        }
+    }
+
+    /// Tells of a function once all its cases were tried, and counts its checks.
+    pub fn close(&mut self, check: Check) {
+        println!("{}: {} cases", check.name, check.cases);
+        for (oracle, against) in ORACLES.iter().zip(&check.against) {
+            let passed = check.cases > 0 && against.differ + against.faults == 0;
+            self.note(passed);
+            if passed && against.listed > 0 {
+                println!("    equal to {}, but for {} cases of the listed difference", oracle, against.listed);
+            } else if passed {
+                println!("    equal to {}", oracle);
+            } else {
+                println!("    FAILED against {}: {} differ, {} panics", oracle, against.differ, against.faults);
+            }
+            if let Some((_, text)) = &against.smallest {
+                println!("    smallest: {}", text);
+            }
+        }
+        for &number in check.numbers {
+            self.meet(check.met[number as usize], &format!("the answer {} of {}", number, check.name));
+        }
+        if check.listed {
+            self.meet(check.against[REAL].listed, &format!("the listed difference of {}", check.name));
+        }
+    }
+
+    fn meet(&mut self, times: u64, what: &str) {
+        self.note(times > 0);
+        match times {
+            0 => println!("    FAILED: {} was never met", what),
+            _ => println!("    {}: met {} times", what, times),
+        }
+    }
+
+    /// The last line of a run, and its exit status.
+    pub fn end(self) -> i32 {
+        println!("{} passed, {} failed", self.passed, self.failed);
+        i32::from(self.failed > 0)
+    }
+}

@@ -1,0 +1,113 @@
+// Answers cases from standard input, a line each, on standard output. What it writes is held to a stored file of answers.
+// A line is a letter and the words that the letter asks for, one space before each; a line that has not that form is answered `bad line`.
+// A coder's letters stand in a file of their own, and dispatch() has an arm for each.
+ghost use mathlib.Core.Path.{_≡_};
+ghost use lib.ListN.{length};
+use crate::answer::Answer;
+use libc::STDIN_FILENO;
+use libc::STDOUT_FILENO;
+
+mod answer; // what a case gives, and how that is written
+mod bits; // r, z, e, p: the bit layer
+mod text; // numbers and bytes as words
+
+// The most bytes that a line may have. Its HEX word then has at most 4,096 bytes, which io::buffer() holds.
+const LINE_LIMIT: usize = 8192;
+
+// The most reads of standard input. Nothing says that an input ends, so they are counted down; at 65,536 bytes each no run uses them up.
+const READS: u32 = 1048576;
+
+// The answer to a line, by its letter. The bytes of a HEX word go to the start of payload.
+fn dispatch(line: &[u8], payload: &mut [u8]) -> Answer {
+    if line.len() == 0 {
+        return Answer::BadLine;
+    }
+    let letter = line[0];
+    match letter {
+        b'r' => bits::read_bits(line, payload),
+        b'z' => bits::zero_prefix(line, payload),
+        b'e' => bits::end_of_data(line, payload),
+        b'p' => bits::put(line, payload),
+        _ => Answer::BadLine,
+    }
+}
+
+// Writes the text in the first len bytes of out as a line. A text that filled out may have been cut.
+fn write_line(out: &mut [u8], len: usize) {
+    if out.len() <= len {
+        io::write_all(STDOUT_FILENO, b"answer too long\n");
+        return;
+    }
+    out[len] = b'\n';
+    io::write_all(STDOUT_FILENO, text::first(out, len + 1));
+}
+
+// The answer to the first len bytes of line; a len above line's length says that the line was longer than the limit.
+fn answer_to(line: &[u8], len: usize, payload: &mut [u8]) -> Answer {
+    if line.len() < len {
+        return Answer::BadLine;
+    }
+    dispatch(text::first(line, len), payload)
+}
+
+fn answer_line(line: &[u8], len: usize) {
+    let mut payload = io::buffer();
+    let mut out = io::large_buffer();
+    let given = answer_to(line, len, &mut payload);
+    let written = answer::write(given, &payload, &mut out);
+    write_line(&mut out, written);
+}
+
+// One byte of the input after the first len bytes of a line, and the new len: 0 after a line's end.
+fn step(b: u8, line: &mut [u8], len: usize) -> usize {
+    if b == b'\n' {
+        answer_line(line, len);
+        return 0;
+    }
+    if len < line.len() {
+        line[len] = b;
+        return len + 1;
+    }
+    line.len() + 1
+}
+
+// A part of the input, byte by byte; len as in step().
+fn feed(part: &[u8], line: &mut [u8], len: usize) -> usize {
+    let mut now_len = len;
+    let mut i: usize = 0;
+    while i < part.len() {
+        now_len = step(part[i], line, now_len);
+        i += 1;
+    }
+    now_len
+}
+
+// Reads to the end of the input and answers each line that has an end. The result is the len of a last line that has none, as in step().
+fn read_lines(part: &mut [u8], line: &mut [u8]) -> usize {
+    let mut len: usize = 0;
+    let mut reads = READS;
+    while 0 < reads {
+        let got = io::read_full(STDIN_FILENO, part);
+        if got == 0 {
+            return len;
+        }
+        len = feed(text::first(part, got), line, len);
+        reads -= 1;
+    }
+    len
+}
+
+fn line_buffer() -> [u8; LINE_LIMIT]
+    ensures { λ r. ⌜ 8192 ≡ length r ⌝ }
+{
+    [0; LINE_LIMIT]
+}
+
+fn main() {
+    let mut part = io::large_buffer();
+    let mut line = line_buffer();
+    let len = read_lines(&mut part, &mut line);
+    if 0 < len {
+        answer_line(&line, len);
+    }
+}

@@ -4,5 +4,6 @@ pub mod BytesLaws
 pub mod PutLaws
 pub mod ReadLaws
 pub mod PlaceLaws
+pub mod MachineLaws
 pub mod Unique
 pub mod Examples

@@ -13,7 +13,7 @@ use lib.ListN.{length, getD, take, drop, length-append, length-drop, length-repl
 use lib.Seq.{take-at, drop-at, length-take-le, drop-cons, drop-append-seam, drop-drop}
 use borrow.Author.Tests.{le-leb, lt-leb}
 use Rattle.bitstream.specs.Bits.{field, number, bitsOf, zeros}
-use Rattle.bitstream.specs.Reading.{Parsed, got, refused, Reader, readField, readBits, oneMore, zeroPrefix}
+use Rattle.bitstream.specs.Reading.{Parsed, got, refused, Reader, after, _then_, readField, readBits, oneMore, zeroPrefix}
 use Rattle.bitstream.specs.Told.{payloadLimit, Outcome, gives, refusal, outcome, within, outcomeAt}
 use Rattle.bitstream.proofs.FieldLaws.{length-field, number-field, number-lt, field-number}
 
@@ -163,27 +163,57 @@ pub within-long : (s : List ℕ) (x : Outcome) → payloadLimit < length s → w
 unfolding within
 within-long s x h = simp (lt-leb (length s) payloadLimit h)
 
--- A reader takes bits off the front of what is unread.
-pub record Takes (m : Reader) : Type 0 where
-  pub off : (bs : List Bool) (v : ℕ) (rest : List Bool) → m bs ≡ got v rest → (pre : List Bool) × (bs ≡ pre ++ rest)
+-- ---- a reader's answer depends on the bits that it took alone
 
-pub readField-takes : (n : ℕ) → Takes (readField n)
-readField-takes n = record { off = λ bs v rest e. (field n v, field-readField n bs v rest e .0) }
+-- pre is what a reader took: the same comes of it whatever stands behind it
+pub record Took (m : Reader) (bs : List Bool) (v : ℕ) (rest : List Bool) : Type 0 where
+  pub pre : List Bool
+  pub is : bs ≡ pre ++ rest
+  pub again : (t : List Bool) → m (pre ++ t) ≡ got v t
 
-pub readBits-takes : (n : ℕ) → Takes (readBits n)
-readBits-takes n = record { off = λ bs v rest e. go bs v rest e (decLe n 32) }
+abbrev pub Local : Reader → Type 0
+Local m = (bs : List Bool) (v : ℕ) (rest : List Bool) → m bs ≡ got v rest → Took m bs v rest
+
+pub readField-local : (n : ℕ) → Local (readField n)
+readField-local n bs v rest e =
+    let f = field-readField n bs v rest e in
+    record { pre = field n v; is = f .0; again = λ t. readField-field n v t (f .1) }
+
+pub readBits-local : (n : ℕ) → Local (readBits n)
+readBits-local n bs v rest e = go (decLe n 32)
   where
-    go : (bs : List Bool) (v : ℕ) (rest : List Bool) → readBits n bs ≡ got v rest → Dec (n ≤ 32) → (pre : List Bool) × (bs ≡ pre ++ rest)
-    go bs v rest e (yes h) = readField-takes n .off bs v rest (sym (readBits-field n bs h) ∙ e)
-    go bs v rest e (no h) =
+    go : Dec (n ≤ 32) → Took (readBits n) bs v rest
+    go (yes h) =
+        let t = readField-local n bs v rest (sym (readBits-field n bs h) ∙ e) in
+        record { pre = t .pre; is = t .is; again = λ u. readBits-field n (t .pre ++ u) h ∙ t .again u }
+    go (no h) =
         let s : readBits n bs ≡ refused 6 = readBits-wide n bs (omega arith) in
         absurd (let z : _≡_ {A = ℕ} 0 1 = cc in omega arith)
 
-pub zeroPrefix-takes : (cap : ℕ) → Takes (zeroPrefix cap)
-zeroPrefix-takes cap = record { off = λ bs v rest e. (zeros v ++ (true ∷ []), zeros-zeroPrefix cap bs v rest e .0 ∙ sym (seam v rest)) }
+pub zeroPrefix-local : (cap : ℕ) → Local (zeroPrefix cap)
+zeroPrefix-local cap bs v rest e =
+    let f = zeros-zeroPrefix cap bs v rest e in
+    record {
+      pre = zeros v ++ (true ∷ []);
+      is = f .0 ∙ sym (append-assoc (zeros v) (true ∷ []) rest);
+      again = λ t. ap (zeroPrefix cap) (append-assoc (zeros v) (true ∷ []) t) ∙ zeroPrefix-zeros cap v t (f .1);
+    }
+
+pub bind-local : (m : Reader) (f : ℕ → Reader) → Local m → ((v : ℕ) → Local (f v)) → Local (m then f)
+bind-local m f lm lf bs w rest e = go (m bs) refl e
   where
-    seam : (v : ℕ) (rest : List Bool) → (zeros v ++ (true ∷ [])) ++ rest ≡ zeros v ++ true ∷ rest
-    seam v rest = simp append-assoc
+    go : (x : Parsed) → m bs ≡ x → after x f ≡ got w rest → Took (m then f) bs w rest
+    go (refused k) ex ey = absurd (let z : _≡_ {A = ℕ} 0 1 = cc in omega arith)
+    go (got v mid) ex ey =
+        let a = lm bs v mid ex in
+        let b = lf v mid w rest ey in
+        record {
+          pre = a .pre ++ b .pre;
+          is = a .is ∙ ap (λ (l : List Bool). a .pre ++ l) (b .is) ∙ sym (append-assoc (a .pre) (b .pre) rest);
+          again = λ t. ap (λ (l : List Bool). after (m l) f) (append-assoc (a .pre) (b .pre) t) ∙ ap (λ (x : Parsed). after x f) (a .again (b .pre ++ t)) ∙ b .again t;
+        }
+
+-- ---- what an answer says of a payload
 
 -- the reader m at bit p of a payload that is not too long
 module _ (m : Reader) (s : List ℕ) (p : ℕ) where
@@ -204,20 +234,58 @@ module _ (m : Reader) (s : List ℕ) (p : ℕ) where
       go (refused j) f = cc
 
   -- a value that was told is the reader's, and what is then unread begins at the next position
-  pub told-got : Takes m → length s ≤ payloadLimit → (v q : ℕ) → gives v q ≡ outcomeAt m s p
+  pub told-got : Local m → length s ≤ payloadLimit → (v q : ℕ) → gives v q ≡ outcomeAt m s p
       → (m (drop p (bitsOf s)) ≡ got v (drop q (bitsOf s))) × (p ≤ q) × (q - p ≤ length (drop p (bitsOf s)))
-  told-got takes h v q e = go (m (drop p (bitsOf s))) refl (e ∙ outcomeAt-fits h)
+  told-got local h v q e = go (m (drop p (bitsOf s))) refl (e ∙ outcomeAt-fits h)
     where
       go : (x : Parsed) → m (drop p (bitsOf s)) ≡ x → gives v q ≡ outcome p (drop p (bitsOf s)) x
           → (x ≡ got v (drop q (bitsOf s))) × (p ≤ q) × (q - p ≤ length (drop p (bitsOf s)))
       go (refused j) r f = absurd (let z : _≡_ {A = ℕ} 0 1 = cc in omega arith)
       go (got w rest) r f =
-          let t = takes .off (drop p (bitsOf s)) w rest r in
-          let pre : List Bool = t .0 in
+          let t = local (drop p (bitsOf s)) w rest r in
+          let pre : List Bool = t .pre in
           let same : v ≡ w = cc in
           let at : q ≡ p + (length (drop p (bitsOf s)) - length rest) = cc in
-          let len : length (drop p (bitsOf s)) ≡ length pre + length rest = ap length (t .1) ∙ length-append pre rest in
+          let len : length (drop p (bitsOf s)) ≡ length pre + length rest = ap length (t .is) ∙ length-append pre rest in
           let nxt : p + length pre ≡ q = omega arith in
           let unread : rest ≡ drop q (bitsOf s) =
-          sym (drop-append-seam pre rest) ∙ ap (drop (length pre)) (sym (t .1)) ∙ drop-drop (length pre) p (bitsOf s) ∙ ap (λ (k : ℕ). drop k (bitsOf s)) nxt in
+          sym (drop-append-seam pre rest) ∙ ap (drop (length pre)) (sym (t .is)) ∙ drop-drop (length pre) p (bitsOf s) ∙ ap (λ (k : ℕ). drop k (bitsOf s)) nxt in
           (ap₂ got (sym same) unread, omega arith, omega arith)
+
+-- reading on behind a value counts from where the reading began
+on-behind : (m : Reader) → Local m → (B : List Bool) (p q : ℕ) → p ≤ q → q - p ≤ length (drop p B)
+    → outcome q (drop q B) (m (drop q B)) ≡ outcome p (drop p B) (m (drop q B))
+on-behind m lm B p q low high = go (m (drop q B)) refl
+  where
+    go : (x : Parsed) → m (drop q B) ≡ x → outcome q (drop q B) x ≡ outcome p (drop p B) x
+    go (refused k) e = refl
+    go (got v rest) e =
+        let t = lm (drop q B) v rest e in
+        let len : length (drop q B) ≡ length (t .pre) + length rest = ap length (t .is) ∙ length-append (t .pre) rest in
+        let same : q + (length (drop q B) - length rest) ≡ p + (length (drop p B) - length rest) = omega (arith, length-drop p B, length-drop q B) in
+        ap (gives v) same
+
+-- what comes of m and then f, once m's answer is told
+module _ (m : Reader) (f : ℕ → Reader) (s : List ℕ) (p : ℕ) where
+  then-fits : length s ≤ payloadLimit → (x : Parsed) → m (drop p (bitsOf s)) ≡ x → outcome p (drop p (bitsOf s)) (after x f) ≡ outcomeAt (m then f) s p
+  then-fits h x e = sym (outcomeAt-fits (m then f) s p h ∙ ap (λ (y : Parsed). outcome p (drop p (bitsOf s)) (after y f)) e)
+
+  pub told-after : Local m → (v q : ℕ) → Local (f v) → gives v q ≡ outcomeAt m s p → outcomeAt (f v) s q ≡ outcomeAt (m then f) s p
+  told-after lm v q lf e = go (decLe (length s) payloadLimit)
+    where
+      go : Dec (length s ≤ payloadLimit) → outcomeAt (f v) s q ≡ outcomeAt (m then f) s p
+      go (no h) =
+          let l : outcomeAt m s p ≡ refusal 1 = outcomeAt-long m s p (omega arith) in
+          absurd (let z : _≡_ {A = ℕ} 0 1 = cc in omega arith)
+      go (yes h) =
+          let g = told-got m s p lm h v q e in
+          outcomeAt-fits (f v) s q h ∙ on-behind (f v) lf (bitsOf s) p q (g .1) (g .2) ∙ then-fits h (got v (drop q (bitsOf s))) (g .0)
+
+  pub told-stop : (k : ℕ) → refusal k ≡ outcomeAt m s p → refusal k ≡ outcomeAt (m then f) s p
+  told-stop k e = go (decLe (length s) payloadLimit)
+    where
+      go : Dec (length s ≤ payloadLimit) → refusal k ≡ outcomeAt (m then f) s p
+      go (no h) =
+          let l : payloadLimit < length s = omega arith in
+          e ∙ outcomeAt-long m s p l ∙ sym (outcomeAt-long (m then f) s p l)
+      go (yes h) = then-fits h (refused k) (told-refused m s p h k e)

@@ -12,7 +12,7 @@ use Rattle.bitstream.specs.Reading.{readBits, zeroPrefix}
 use Rattle.bitstream.specs.Told.{numberOf, Outcome, gives, refusal, told, outcomeAt}
 use Rattle.bitstream.specs.declared.Cursor.{Cursor}
 use Rattle.bitstream.specs.declared.Refusal.{Refusal}
-use Rattle.bitstream.specs.declared.Refusal.the-variants.{Limit, Short, Codeword, Overrun, Range, LongRun, AlphaOverrun, Tail, Padding}
+use Rattle.bitstream.specs.declared.Refusal.the-variants.{Limit, Length, Value as BadValue, Short, Codeword, Overrun, Range, LongRun, AlphaOverrun, Tail, Padding, Selector}
 use Rattle.bitstream.specs.declared.Read.{Read}
 use Rattle.bitstream.specs.declared.Read.the-variants.{Value, No}
 
@@ -21,14 +21,19 @@ use Rattle.bitstream.specs.declared.Read.the-variants.{Value, No}
 pub refusalOf : ℕ → Refusal
 refusalOf k =
     cond (eqb k 1) Limit
+    (cond (eqb k 2) Length
+    (cond (eqb k 4) BadValue
     (cond (eqb k 5) Short
     (cond (eqb k 6) Codeword
     (cond (eqb k 7) Overrun
-    (cond (eqb k 8) Range (cond (eqb k 9) LongRun (cond (eqb k 10) AlphaOverrun (cond (eqb k 11) Tail Padding)))))))
+    (cond (eqb k 8) Range
+    (cond (eqb k 9) LongRun (cond (eqb k 10) AlphaOverrun (cond (eqb k 11) Tail (cond (eqb k 12) Padding Selector))))))))))
 
 pub refusalOf-number : (r : Refusal) → refusalOf (numberOf r) ≡ r
 unfolding refusalOf
 refusalOf-number Limit = refl
+refusalOf-number Length = refl
+refusalOf-number BadValue = refl
 refusalOf-number Short = refl
 refusalOf-number Codeword = refl
 refusalOf-number Overrun = refl
@@ -37,6 +42,7 @@ refusalOf-number LongRun = refl
 refusalOf-number AlphaOverrun = refl
 refusalOf-number Tail = refl
 refusalOf-number Padding = refl
+refusalOf-number Selector = refl
 
 answerOf : Outcome → Read
 answerOf (gives v p) = Value v (record { at = p })

@@ -3,3 +3,4 @@ pub mod Bytes
 pub mod Reading
 pub mod Told
 pub mod Puts
+pub mod Machine

@@ -14,6 +14,15 @@ pub data Parsed : Type 0 where
 abbrev pub Reader : Type 0
 Reader = List Bool → Parsed
 
+-- what is read next may depend on the value
+abbrev pub after : Parsed → (ℕ → Reader) → Parsed
+after (got v rest) f = f v rest
+after (refused k) f = refused k
+
+infixl 20 _then_
+abbrev pub _then_ : Reader → (ℕ → Reader) → Reader
+_then_ m f bs = after (m bs) f
+
 -- a field of n bits
 unfoldable pub readField : ℕ → Reader
 readField n bs = cond (leb n (length bs)) (got (number (take n bs)) (drop n bs)) (refused 5)

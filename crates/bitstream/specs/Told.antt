@@ -8,7 +8,7 @@ use Rattle.bitstream.specs.Bits.{bitsOf}
 use Rattle.bitstream.specs.Reading.{Parsed, got, refused, Reader}
 use Rattle.bitstream.specs.declared.Cursor.{Cursor}
 use Rattle.bitstream.specs.declared.Refusal.{Refusal}
-use Rattle.bitstream.specs.declared.Refusal.the-variants.{Limit, Short, Codeword, Overrun, Range, LongRun, AlphaOverrun, Tail, Padding}
+use Rattle.bitstream.specs.declared.Refusal.the-variants.{Limit, Length, Value as BadValue, Short, Codeword, Overrun, Range, LongRun, AlphaOverrun, Tail, Padding, Selector}
 use Rattle.bitstream.specs.declared.Read.{Read}
 use Rattle.bitstream.specs.declared.Read.the-variants.{Value, No}
 
@@ -18,6 +18,8 @@ payloadLimit = 65536
 
 abbrev pub numberOf : Refusal → ℕ
 numberOf Limit = 1
+numberOf Length = 2
+numberOf BadValue = 4
 numberOf Short = 5
 numberOf Codeword = 6
 numberOf Overrun = 7
@@ -26,6 +28,7 @@ numberOf LongRun = 9
 numberOf AlphaOverrun = 10
 numberOf Tail = 11
 numberOf Padding = 12
+numberOf Selector = 13
 
 -- a value and the bit after it, or the number of a refusal
 pub data Outcome : Type 0 where

@@ -12,18 +12,11 @@ pub fn wide(x: u8) -> u64
     x as u64
 }
 
-pub fn pow2(k: usize) -> u64
-    requires { ⌜ k < 64 ⌝ }
-    ensures { λ r. ⌜ r ≡ 2 ^ k ⌝ }
-{
-    1u64 << k
-}
-
 // How far bit p stands from its byte's low end: the most significant bit comes first.
-fn place(p: usize) -> usize
+fn place(p: usize) -> u32
     ensures { λ r. ⌜ r ≡ 7 - p % 8 ⌝ }
 {
-    7 - p % 8
+    (7 - p % 8) as u32
 }
 
 // Whether the bit at p is a 1.
@@ -32,7 +25,7 @@ pub fn bit(payload: &[u8], p: usize) -> bool
     ensures { λ r. ⌜ r ≡ getD (bitsOf (now (payload .entry))) p false ⌝ }
 {
     let b = wide(payload[p / 8]);
-    (b / pow2(place(p))) % 2 == 1
+    (b / common::pow2(place(p))) % 2 == 1
 }
 
 // How many bits are unread at p.

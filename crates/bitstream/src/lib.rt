@@ -14,9 +14,12 @@ mod bytes; // whole bytes into a buffer
 // The most bytes that a payload to decode may have.
 pub const PAYLOAD_LIMIT: usize = 65536;
 
-// Why a payload cannot be read. Every reader hands these up as they are; document 01's number stands beside each.
+// Why a call is refused: document 01's table, its number beside each. Every layer hands these up as they are. (3, no room, reports the needed
+// bytes as well, so the encoders have a case of their own for it.)
 pub enum Refusal {
     Limit, // 1: a count or a payload's length is outside the limits
+    Length, // 2: a coefficient list is not exactly 64 x its blocks
+    Value, // 4: a value to encode is out of range
     Short, // 5: the bits run out before an element that is due is complete
     Codeword, // 6: a bad codeword
     Overrun, // 7: a run passes the last coefficient
@@ -25,6 +28,7 @@ pub enum Refusal {
     AlphaOverrun, // 10: an alpha run passes the last sample
     Tail, // 11: more than 7 bits are left after alpha
     Padding, // 12: at most 7 bits are left after alpha, and one of them is a 1
+    Selector, // 13: a selector is unknown
 }
 
 impl Refusal {
@@ -33,6 +37,8 @@ impl Refusal {
     {
         match self {
             Refusal::Limit => 1,
+            Refusal::Length => 2,
+            Refusal::Value => 4,
             Refusal::Short => 5,
             Refusal::Codeword => 6,
             Refusal::Overrun => 7,
@@ -41,6 +47,7 @@ impl Refusal {
             Refusal::AlphaOverrun => 10,
             Refusal::Tail => 11,
             Refusal::Padding => 12,
+            Refusal::Selector => 13,
         }
     }
 }
@@ -130,7 +137,7 @@ impl Cursor {
         if payload.len() <= i {
             return true;
         }
-        if fields::wide(payload[i]) % fields::pow2(8 - at % 8) != 0 {
+        if fields::wide(payload[i]) % common::pow2((8 - at % 8) as u32) != 0 {
             return false;
         }
         fields::zero_from(payload, i + 1)
@@ -144,7 +151,7 @@ pub fn put(buf: &mut [u8], at: usize, n: u32, v: u64) -> usize
     ensures buffer { λ _. ⌜ now (buf .exit) ≡ putAt (now (buf .entry)) at (field n v) ⌝ }
 {
     let begun = bytes::begun(buf, at);
-    let word = begun * fields::pow2(n as usize) + v % fields::pow2(n as usize);
+    let word = begun * common::pow2(n) + v % common::pow2(n);
     bytes::emit(buf, at / 8, word, (at % 8) as u32 + n);
     at + n as usize
 }

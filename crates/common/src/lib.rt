@@ -1,9 +1,11 @@
-// Laws on numbers, lists and choices that no other crate owns: see proofs/. There is no code here to speak of.
+// What no other crate owns: a power of two, and in proofs/ laws on numbers, lists and ℤ.
 ghost use mathlib.Core.Path.{_≡_};
+ghost use Prim.Native.Nat.{_^_, _<_};
 
-// A library has at least one function.
-pub fn same(x: u64) -> u64
-    ensures { λ r. ⌜ r ≡ x ⌝ }
+// 2 to the k.
+pub fn pow2(k: u32) -> u64
+    requires { ⌜ k < 64 ⌝ }
+    ensures { λ r. ⌜ r ≡ 2 ^ k ⌝ }
 {
-    x
+    1u64 << k
 }

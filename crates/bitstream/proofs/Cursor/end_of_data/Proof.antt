@@ -25,6 +25,9 @@ wide-requires c κs = search needs
 sub-pow2 : tie.Need-sub-pow2
 sub-pow2 c = search needs
 
+cast-pow2 : tie.Need-cast-pow2
+cast-pow2 c = search needs
+
 pow2-requires : tie.Need-pow2-requires
 pow2-requires c κs = search needs
 
@@ -64,6 +67,7 @@ end-of-data-spec =
     shared-slice-read-wide
     wide-requires
     sub-pow2
+    cast-pow2
     pow2-requires
     rem-if2
     returns-2

@@ -1,9 +1,9 @@
--- `bitstream::fields::pow2` meets its contract.
+-- `common::pow2` meets its contract.
 -- Assumes nothing.
 use borrow.Author.Needs.{needs}
 use Rattle.common.proofs.Numbers.{one-shl}
-use Rattle.bitstream.proofs.fields.pow2.Statement.{statement}
-use Rattle.bitstream.proofs.fields.pow2.Tie as tie
+use Rattle.common.proofs.pow2.Statement.{statement}
+use Rattle.common.proofs.pow2.Tie as tie
 
 shl-result : tie.Need-shl-result
 shl-result c = search needs

@@ -1,5 +1,5 @@
 # Short names for the scripts of this repository, each of which can be run by itself.
-.PHONY: prove test compare bench answers clean
+.PHONY: prove test compare compare-long bench answers clean
 
 # Proves every crate that changed, and runs the programs.
 prove:
@@ -16,6 +16,17 @@ compare:
 	compare/build.sh
 	target/compare/oracle_check
 	target/compare/driver
+	target/compare/vectors
+
+# The same with tens of millions of random cases, from another seed, and with every payload of 3 bytes.
+compare-long: SEED = 3
+compare-long: CASES = 20000000
+compare-long:
+	oracle/build.sh
+	compare/native.sh probe
+	compare/build.sh
+	target/compare/driver $(SEED) $(CASES) 1
+	target/compare/driver_checked $(SEED) 3000000 7
 
 # Times, on this machine.
 bench:

@@ -6,8 +6,8 @@ use std::hint::black_box;
 use oracle_real::bitstream::{BitReader, BitWriter};
 
 use crate::probe;
-use crate::race;
 use crate::random::Random;
+use crate::Plan;
 
 const FIELDS: usize = 10_000_000;
 /// As long as a payload may be: the fields are read and written in chunks of this many bytes.
@@ -20,32 +20,32 @@ struct Chunk {
     bytes: Vec<u8>,
 }
 
-pub fn run(rounds: u32) {
+pub fn run(plan: &Plan) {
     let chunks = chunks();
     equal_answers(&chunks);
 
-    let proved = || use_up(chunks.iter().flat_map(|chunk| proved_read(black_box(chunk))));
-    let rust = || use_up(chunks.iter().flat_map(|chunk| rust_read(black_box(chunk))));
-    race("read a field of 1 to 32 bits", rounds, FIELDS, proved, rust);
+    let mut proved = || use_up(chunks.iter().flat_map(|chunk| proved_read(black_box(chunk))));
+    let mut rust = || use_up(chunks.iter().flat_map(|chunk| rust_read(black_box(chunk))));
+    plan.race("read a field of 1 to 32 bits", FIELDS, &mut [&mut proved, &mut rust]);
 
     let mut buffer = vec![0; CHUNK];
-    let proved = || chunks.iter().for_each(|chunk| proved_write(black_box(chunk), black_box(&mut buffer)));
-    let rust = || chunks.iter().for_each(|chunk| drop(black_box(rust_write(black_box(chunk)))));
-    race("write a field of 1 to 32 bits", rounds, FIELDS, proved, rust);
+    let mut proved = || chunks.iter().for_each(|chunk| proved_write(black_box(chunk), black_box(&mut buffer)));
+    let mut rust = || chunks.iter().for_each(|chunk| drop(black_box(rust_write(black_box(chunk)))));
+    plan.race("write a field of 1 to 32 bits", FIELDS, &mut [&mut proved, &mut rust]);
 
     // for information: a user of the Rust has no such call
     let sparse = sparse_bytes();
     let ones = proved_prefixes(&sparse).len();
-    let proved = || drop(black_box(proved_prefixes(black_box(&sparse))));
-    let rust = || drop(black_box(rust_prefixes(black_box(&sparse))));
-    race("(count the zeros before a 1, 7 on average)", rounds, ones, proved, rust);
+    let mut proved = || drop(black_box(proved_prefixes(black_box(&sparse))));
+    let mut rust = || drop(black_box(rust_prefixes(black_box(&sparse))));
+    plan.race("(count the zeros before a 1, 7 on average)", ones, &mut [&mut proved, &mut rust]);
 
     let bytes = &chunks[0].bytes;
     let bits = rust_asks(bytes);
     assert_eq!(proved_asks(bytes), bits, "the ends of data differ");
-    let proved = || assert_eq!(proved_asks(black_box(bytes)), bits);
-    let rust = || assert_eq!(rust_asks(black_box(bytes)), bits);
-    race("(read a bit, then ask for the end of data)", rounds, bits, proved, rust);
+    let mut proved = || assert_eq!(proved_asks(black_box(bytes)), bits);
+    let mut rust = || assert_eq!(rust_asks(black_box(bytes)), bits);
+    plan.race("(read a bit, then ask for the end of data)", bits, &mut [&mut proved, &mut rust]);
 }
 
 /// Fields of 1 to 32 bits, widths and values pseudo-random.

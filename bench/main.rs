@@ -1,58 +1,116 @@
-// bench [ROUNDS]: the proved code against the Rust over its own bitstream.rs, in one process.
+// bench [ROUNDS [CODER WHAT SIDE]]: the proved code against the Rust over its own bitstream.rs, and where
+// told also over the plain bit layer, in one process.
 //
 // The sides take turns, round after round, and the best round of each counts, so that what else the
-// machine does hits both alike. Each coder has its file, which checks that both sides give equal
-// answers before it times them.
+// machine does hits all alike. Each coder has its file, which checks that all sides give equal answers
+// before it times them. With a coder, one of its races and a side (proved, rust, plain), that side alone
+// runs, untimed: bench/count.sh counts its instructions.
+use std::cell::Cell;
 use std::time::Instant;
 
 // shared with the comparison, which uses more of them
+#[path = "../compare/json.rs"]
 #[allow(dead_code)]
+mod json;
+#[path = "../compare/lists.rs"]
+#[allow(dead_code)]
+mod lists;
+#[path = "../oracle/model.rs"]
+#[allow(dead_code)]
+mod model;
 #[path = "../compare/probe.rs"]
-mod probe;
 #[allow(dead_code)]
+mod probe;
 #[path = "../compare/random.rs"]
+#[allow(dead_code)]
 mod random;
+#[path = "../compare/slices.rs"]
+#[allow(dead_code)]
+mod slices;
 
 /// Makes the module of each coder known, and puts its `run` into the list.
 macro_rules! coders {
     ($($name:ident)*) => {
         $(mod $name;)*
-        const CODERS: &[fn(u32)] = &[$($name::run),*];
+        const CODERS: &[(&str, fn(&Plan))] = &[$((stringify!($name), $name::run)),*];
     };
 }
 
 // One line for each coder, whose benchmark is the file of that name.
 coders! {
     bits
+    coefficients
 }
 
-/// Times two sides that do the same number of things, and prints the time of one thing on each.
-pub fn race(what: &str, rounds: u32, things: usize, mut proved: impl FnMut(), mut rust: impl FnMut()) {
-    let time = |side: &mut dyn FnMut()| {
-        let began = Instant::now();
-        side();
-        began.elapsed().as_secs_f64()
-    };
-    let (mut best_proved, mut best_rust) = (f64::MAX, f64::MAX);
-    for _ in 0..rounds {
-        best_proved = best_proved.min(time(&mut proved));
-        best_rust = best_rust.min(time(&mut rust));
+/// The sides of a race in their order; a race may have the first two alone.
+const SIDES: [&str; 3] = ["proved", "rust", "plain"];
+
+pub struct Plan {
+    rounds: u32,
+    /// A race and one side of it, if that is to run alone.
+    alone: Option<(String, usize)>,
+    /// Whether that race was there.
+    met: Cell<bool>,
+}
+
+impl Plan {
+    /// Times sides that do the same number of things, the proved code first, and prints the time of one
+    /// thing on each.
+    pub fn race(&self, what: &str, things: usize, sides: &mut [&mut dyn FnMut()]) {
+        if let Some((race, side)) = &self.alone {
+            if race == what {
+                self.met.set(true);
+                (0..self.rounds).for_each(|_| sides[*side]());
+            }
+            return;
+        }
+        let mut best = vec![f64::MAX; sides.len()];
+        let first = Instant::now();
+        let mut rounds = 0;
+        // a round of few milliseconds needs more of them to have one undisturbed
+        while rounds < self.rounds || first.elapsed().as_secs_f64() < 1.0 {
+            rounds += 1;
+            for (best, side) in best.iter_mut().zip(sides.iter_mut()) {
+                let began = Instant::now();
+                side();
+                *best = best.min(began.elapsed().as_secs_f64());
+            }
+        }
+        let each = 1e9 / things as f64;
+        print!("{:44} proved {:7.2} ns", what, best[0] * each);
+        for (name, time) in ["Rust", "Rust over plain bits"].iter().zip(&best[1..]) {
+            print!(", {} {:7.2} ns, proved / it {:.2}", name, time * each, best[0] / time);
+        }
+        println!();
     }
-    let each = 1e9 / things as f64;
-    println!(
-        "{:44} proved {:7.2} ns, Rust {:7.2} ns, proved / Rust {:.2}",
-        what,
-        best_proved * each,
-        best_rust * each,
-        best_proved / best_rust
-    );
 }
 
 fn main() {
-    let rounds = match std::env::args().nth(1) {
-        None => 7,
-        Some(word) => word.parse().expect("usage: bench [ROUNDS]"),
+    let words: Vec<String> = std::env::args().skip(1).collect();
+    let usage = || -> ! {
+        eprintln!("usage: bench [ROUNDS [CODER WHAT SIDE]], SIDE proved, rust or plain");
+        std::process::exit(2);
     };
-    println!("best of {} rounds, taking turns", rounds);
-    CODERS.iter().for_each(|run| run(rounds));
+    let rounds = words.first().map_or(Ok(7), |word| word.parse()).unwrap_or_else(|_| usage());
+    let (coder, alone) = match words.len() {
+        0 | 1 => (None, None),
+        4 => {
+            let side = SIDES.iter().position(|side| *side == words[3]).unwrap_or_else(|| usage());
+            (Some(&words[1]), Some((words[2].clone(), side)))
+        }
+        _ => usage(),
+    };
+    let plan = Plan { rounds, alone, met: Cell::new(false) };
+    if plan.alone.is_none() {
+        println!("best of {} rounds, or of as many as a second takes, taking turns", rounds);
+    }
+    for (name, run) in CODERS {
+        if coder.map_or(true, |coder| coder == name) {
+            run(&plan);
+        }
+    }
+    if plan.alone.is_some() && !plan.met.get() {
+        eprintln!("bench: there is no such race");
+        std::process::exit(2);
+    }
 }

@@ -180,8 +180,8 @@ impl Face {
 
     fn put(&mut self, old: &[u8], at: usize, n: u32, v: u64) {
         self.buffer.set(old);
-        let told = probe::put(self.buffer.bytes_mut(), at, n, v);
-        let ours = Written { told, bytes: self.buffer.bytes().to_vec(), inside: self.buffer.guards_stand() };
+        let told = probe::put(self.buffer.items_mut(), at, n, v);
+        let ours = Written { told, bytes: self.buffer.items().to_vec(), inside: self.buffer.guards_stand() };
         let theirs =
             [guarded(|| put_by::<plain::Bits>(old, at, n, v)), guarded(|| put_by::<real::Bits>(old, at, n, v))];
         let size = Size { bytes: old.len(), at, width: n.into() };
@@ -204,7 +204,7 @@ fn every_short_payload(face: &mut Face) {
     let mut lent = Lent::new(&[]);
     for bytes in (0..=2).flat_map(every) {
         lent.set(&bytes);
-        let payload = lent.bytes();
+        let payload = lent.items();
         for at in 0..=8 * payload.len() + 1 {
             face.read_bit(payload, at);
             (0..=33).for_each(|n| face.read_bits(payload, at, n));
@@ -229,7 +229,7 @@ fn every_run_of_zeros(face: &mut Face) {
                     bytes[first_one / 8] = bit | (behind & (bit - 1));
                 }
                 lent.set(&bytes);
-                let payload = lent.bytes();
+                let payload = lent.items();
                 for at in 0..=8 * length + 1 {
                     [0, 1, 8, 9, 25, 31, 32, 33].iter().for_each(|&n| face.read_bits(payload, at, n));
                     [0, 1, 7, 8, 9, 31, 32, 33, 63, 64, 65].iter().for_each(|&cap| face.zero_prefix(payload, at, cap));
@@ -275,7 +275,7 @@ fn at_the_limit(face: &mut Face) {
     for length in [LIMIT, LIMIT + 1] {
         for fill in [0x00, 0x5a] {
             let lent = Lent::new(&vec![fill; length]);
-            let payload = lent.bytes();
+            let payload = lent.items();
             for at in (0..10).chain(8 * length - 66..8 * length + 2) {
                 face.read_bit(payload, at);
                 [0, 1, 8, 31, 32, 33].iter().for_each(|&n| face.read_bits(payload, at, n));
@@ -296,7 +296,7 @@ fn random_cases(face: &mut Face, run: &Run) {
     for _ in 0..run.cases {
         random_bytes(random, &mut bytes);
         lent.set(&bytes);
-        let payload = lent.bytes();
+        let payload = lent.items();
         let at = random_place(random, payload.len());
         match random.below(16) {
             0 => face.read_bit(payload, at),

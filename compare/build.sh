@@ -3,12 +3,13 @@
 # the oracles in their checked form. With no words, all of them.
 #
 #   PROGRAM  driver        compares the proved code with the oracles; links target/native/libNAME.a
+#            vectors       tries the proved code on real slices, which needs no oracle; only release
 #            oracle_check  tries the oracles alone on document 01's table
 #   FORM     release, checked (oracle/build.sh)
 set -eu
 cd "$(dirname "$0")/.."
 
-# the proved archives that the driver calls
+# the proved archives that the driver and vectors call
 archives=probe
 
 build() { # PROGRAM FORM
@@ -17,32 +18,42 @@ build() { # PROGRAM FORM
     # a failure must not leave an earlier build behind
     rm -f "$result"
     set -- --edition 2021 -C opt-level=3 -o "$result"
-    for kind in plain real; do
-        rlib=target/oracle/$form/liboracle_$kind.rlib
-        [ -f "$rlib" ] || oracle/build.sh "$kind" "$form"
-        set -- "$@" --extern "oracle_$kind=$rlib"
-    done
     case $program in
-    driver)
-        main=compare/main.rs
-        for name in $archives; do
-            [ -f "target/native/lib$name.a" ] || {
-                echo "compare: target/native/lib$name.a is missing; run compare/native.sh $name" >&2
-                exit 1
-            }
-            set -- "$@" -L target/native -l "static=$name"
-        done
-        ;;
-    oracle_check) main=compare/oracle_check.rs ;;
-    *) echo "compare: the program is driver or oracle_check, not $program" >&2; exit 2 ;;
+    driver) main=compare/main.rs needs='oracles archives' ;;
+    vectors) main=compare/vectors.rs needs=archives ;;
+    oracle_check) main=compare/oracle_check.rs needs=oracles ;;
+    *) echo "compare: the program is driver, vectors or oracle_check, not $program" >&2; exit 2 ;;
     esac
+    for need in $needs; do
+        case $need in
+        oracles)
+            for kind in plain real; do
+                rlib=target/oracle/$form/liboracle_$kind.rlib
+                [ -f "$rlib" ] || oracle/build.sh "$kind" "$form"
+                set -- "$@" --extern "oracle_$kind=$rlib"
+            done
+            ;;
+        archives)
+            for name in $archives; do
+                [ -f "target/native/lib$name.a" ] || {
+                    echo "compare: target/native/lib$name.a is missing; run compare/native.sh $name" >&2
+                    exit 1
+                }
+                set -- "$@" -L target/native -l "static=$name"
+            done
+            ;;
+        esac
+    done
     mkdir -p target/compare
     "${RUSTC:-rustc}" "$@" "$main"
     echo "compare: $result"
 }
 
 case $# in
-0) for program in oracle_check driver; do for form in release checked; do build "$program" "$form"; done; done ;;
+0)
+    for program in oracle_check driver; do for form in release checked; do build "$program" "$form"; done; done
+    build vectors release
+    ;;
 2) build "$1" "$2" ;;
-*) echo "usage: compare/build.sh [driver|oracle_check release|checked]" >&2; exit 2 ;;
+*) echo "usage: compare/build.sh [driver|vectors|oracle_check release|checked]" >&2; exit 2 ;;
 esac

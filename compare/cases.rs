@@ -4,40 +4,53 @@ use crate::random::Random;
 /// The longest payload or buffer that document 01 allows.
 pub const LIMIT: usize = 65_536;
 
-const GUARD: usize = 16;
+const GUARDS: usize = 16;
 
-/// Bytes to lend, between guard bytes: a reader that goes past them would find 1 bits, and a writer
-/// that does would change them.
-pub struct Lent {
-    room: Vec<u8>,
+/// What stands before and behind a lent list: for bytes all ones, so that a reader that goes past them
+/// finds 1 bits, and for coefficients a number out of range.
+pub trait Guarded: Copy + PartialEq {
+    const GUARD: Self;
 }
 
-impl Lent {
-    pub fn new(bytes: &[u8]) -> Self {
+impl Guarded for u8 {
+    const GUARD: u8 = 0xff;
+}
+
+impl Guarded for i32 {
+    const GUARD: i32 = 0x7afe_7afe;
+}
+
+/// Bytes or coefficients to lend, between guards, which a writer that goes past them would change.
+pub struct Lent<T = u8> {
+    room: Vec<T>,
+}
+
+impl<T: Guarded> Lent<T> {
+    pub fn new(items: &[T]) -> Self {
         let mut lent = Lent { room: Vec::new() };
-        lent.set(bytes);
+        lent.set(items);
         lent
     }
 
-    pub fn set(&mut self, bytes: &[u8]) {
+    pub fn set(&mut self, items: &[T]) {
         self.room.clear();
-        self.room.resize(GUARD, 0xff);
-        self.room.extend_from_slice(bytes);
-        self.room.resize(bytes.len() + 2 * GUARD, 0xff);
+        self.room.resize(GUARDS, T::GUARD);
+        self.room.extend_from_slice(items);
+        self.room.resize(items.len() + 2 * GUARDS, T::GUARD);
     }
 
-    pub fn bytes(&self) -> &[u8] {
-        &self.room[GUARD..self.room.len() - GUARD]
+    pub fn items(&self) -> &[T] {
+        &self.room[GUARDS..self.room.len() - GUARDS]
     }
 
-    pub fn bytes_mut(&mut self) -> &mut [u8] {
-        let end = self.room.len() - GUARD;
-        &mut self.room[GUARD..end]
+    pub fn items_mut(&mut self) -> &mut [T] {
+        let end = self.room.len() - GUARDS;
+        &mut self.room[GUARDS..end]
     }
 
     pub fn guards_stand(&self) -> bool {
-        let (before, rest) = self.room.split_at(GUARD);
-        before.iter().chain(&rest[rest.len() - GUARD..]).all(|&byte| byte == 0xff)
+        let (before, rest) = self.room.split_at(GUARDS);
+        before.iter().chain(&rest[rest.len() - GUARDS..]).all(|&item| item == T::GUARD)
     }
 }
 
@@ -87,6 +100,18 @@ pub fn random_place(random: &mut Random, length: usize) -> usize {
         ]),
         1..=6 => (end + 3).saturating_sub(random.below(70) as usize),
         _ => random.below(end as u64 + 3) as usize,
+    }
+}
+
+/// A list of coefficients in words: the places that are not 0, or of very many the first ones.
+pub fn shown_list(list: &[i32]) -> String {
+    const MOST: usize = 24;
+    let set: Vec<_> = list.iter().enumerate().filter(|&(_, &value)| value != 0).collect();
+    let words = set.iter().take(MOST).map(|(place, value)| format!(" {}:{}", place, value));
+    match set.len() {
+        0 => "all 0".to_string(),
+        0..=MOST => format!("0 but{}", words.collect::<String>()),
+        many => format!("{} not 0,{} ..", many, words.collect::<String>()),
     }
 }
 

@@ -1,17 +1,24 @@
-// driver [SEED] [CASES]: holds the proved code, linked in as C would link it, to the oracle.
+// driver [SEED] [CASES] [STEP]: holds the proved code, linked in as C would link it, to the oracle.
 //
-// Each coder has every small input tried, then CASES random ones; SEED repeats a run. Everything is
-// asked three times: of the proved code, of the Rust over the plain bit layer, which decides, and of
-// the Rust over its own bitstream.rs, from which only the listed difference is allowed. The last line
-// counts checks, not cases: one for each function and oracle, and one for each answer that must have
-// been met, so that a run that never came by a refusal does not pass for one that tried it.
+// Each coder has every small input tried, then CASES random ones; SEED repeats a run. Of the inputs that
+// are too many for every run, each STEPth is tried. Everything is asked three times: of the proved code,
+// of the Rust over the plain bit layer, which decides, and of the Rust over its own bitstream.rs, from
+// which only the listed difference is allowed. The last line counts checks, not cases: one for each
+// function and oracle, and one for each answer that must have been met, so that a run that never came
+// by a refusal does not pass for one that tried it.
 use std::time::Instant;
 
 mod cases;
+mod lists;
+#[path = "../oracle/model.rs"]
+mod model;
 mod oracles;
 mod probe;
 mod random;
+#[path = "../oracle/refusal.rs"]
+mod refusal;
 mod report;
+mod streams;
 
 /// Makes the module of each coder known, and puts its `run` into the list.
 macro_rules! coders {
@@ -24,24 +31,26 @@ macro_rules! coders {
 // One line for each coder, whose comparison is the file of that name.
 coders! {
     bits
+    coefficients
 }
 
 /// What the command line asks for.
 pub struct Run {
     pub seed: u64,
     pub cases: u64,
+    pub step: usize,
 }
 
 fn main() {
     let number = |place: usize, default: u64| match std::env::args().nth(place) {
         None => default,
         Some(word) => word.parse().unwrap_or_else(|_| {
-            eprintln!("usage: driver [SEED] [CASES], both numbers; not {}", word);
+            eprintln!("usage: driver [SEED] [CASES] [STEP], all numbers; not {}", word);
             std::process::exit(2);
         }),
     };
-    let run = Run { seed: number(1, 1), cases: number(2, 1_000_000) };
-    println!("seed {}, {} random cases", run.seed, run.cases);
+    let run = Run { seed: number(1, 1), cases: number(2, 1_000_000), step: number(3, 7).max(1) as usize };
+    println!("seed {}, {} random cases, step {}", run.seed, run.cases, run.step);
     // a panic of the oracle is a fault of the case, and the report tells of it
     std::panic::set_hook(Box::new(|_| {}));
     let mut report = report::Report::default();

@@ -3,6 +3,10 @@
 // listed. Built over the checked oracles too: no line may overflow. The last line counts these lines.
 use std::panic::{catch_unwind, AssertUnwindSafe};
 
+#[path = "../oracle/refusal.rs"]
+mod refusal;
+use refusal::refusal;
+
 mod plain {
     use oracle_plain as rust;
     include!("table.rs");
@@ -45,22 +49,6 @@ impl Lines {
 /// Bytes as document 01 writes them.
 pub fn hex(bytes: &[u8]) -> String {
     bytes.iter().map(|byte| format!("{:02X}", byte)).collect::<Vec<_>>().join(" ")
-}
-
-/// The refusal of document 01 that each error text of the Rust stands for; 0 for none.
-pub fn refusal(text: &str) -> u32 {
-    let numbers = [
-        ("EOF", 5),
-        ("prefix too long", 6),
-        ("suffix too wide", 6),
-        ("value out of range", 6),
-        ("AC run overruns", 7),
-        ("run length out of range", 9),
-        ("run overruns alphaValues", 10),
-        ("trailing payload", 11),
-        ("nonzero alignment padding", 12),
-    ];
-    numbers.iter().find(|(part, _)| text.contains(part)).map_or(0, |&(_, number)| number)
 }
 
 /// The bit counts that the table names: only the plain layer tells them.

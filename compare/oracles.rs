@@ -1,12 +1,17 @@
-// The Rust over each of its two bit layers. Both crates have the same items, so one file is read twice.
+// The Rust over each of its two bit layers. Both crates have the same items, so the files are read twice:
+// layer.rs has what the bit layer does, coder.rs what the coder over it does.
+use crate::refusal::refusal;
+
 pub mod plain {
     use oracle_plain as rust;
     include!("layer.rs");
+    include!("coder.rs");
 }
 
 pub mod real {
     use oracle_real as rust;
     include!("layer.rs");
+    include!("coder.rs");
 }
 
 /// What a bit layer of the Rust does, at any bit position. It has no limits, and no refusal but the

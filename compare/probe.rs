@@ -9,6 +9,12 @@ mod c {
         pub fn probe_end_of_data(payload: *const u8, len: usize, at: usize) -> u32;
         pub fn probe_put(buf: *mut u8, len: usize, at: usize, n: u32, v: u64, next: *mut usize) -> u32;
         pub fn probe_align_byte(at: usize, next: *mut usize) -> u32;
+        pub fn probe_decode(
+            payload: *const u8, len: usize, blocks: usize, out: *mut i32, out_len: usize, bits: *mut usize,
+        ) -> u32;
+        pub fn probe_encode(
+            coeffs: *const i32, len: usize, blocks: usize, out: *mut u8, out_len: usize, bytes: *mut usize, bits: *mut usize,
+        ) -> u32;
     }
 }
 
@@ -89,4 +95,23 @@ pub fn align_byte(at: usize) -> Told {
         *value = 0;
         c::probe_align_byte(at, next)
     })
+}
+
+/// A refusal number, 0 for done, and the bits read.
+#[inline]
+pub fn decode(payload: &[u8], blocks: usize, list: &mut [i32]) -> (u32, usize) {
+    let mut bits = 0xdead_beef_dead_beef;
+    let number =
+        unsafe { c::probe_decode(payload.as_ptr(), payload.len(), blocks, list.as_mut_ptr(), list.len(), &mut bits) };
+    (number, bits)
+}
+
+/// A refusal number, 0 for done, the bytes written (for refusal 3: needed) and the bits.
+#[inline]
+pub fn encode(list: &[i32], blocks: usize, out: &mut [u8]) -> (u32, usize, usize) {
+    let (mut bytes, mut bits) = (0xdead_beef_dead_beef, 0xdead_beef_dead_beef);
+    let number = unsafe {
+        c::probe_encode(list.as_ptr(), list.len(), blocks, out.as_mut_ptr(), out.len(), &mut bytes, &mut bits)
+    };
+    (number, bytes, bits)
 }

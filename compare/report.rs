@@ -17,25 +17,37 @@ pub enum Verdict {
     Equal,
     /// Another answer, and exactly where docs/DIFFERENCES.md says so.
     Listed,
+    /// A refusal by a rule that the Rust does not have: it may give any answer, or panic.
+    OurRule,
     Differs,
     /// The oracle panicked.
     Fault,
 }
 
 /// The oracles, in the order in which a check keeps them.
-pub const ORACLES: [&str; 2] = ["the Rust over plain bits", "the Rust over bitstream.rs"];
+const ORACLES: [&str; 2] = ["the Rust over plain bits", "the Rust over bitstream.rs"];
 pub const PLAIN: usize = 0;
 pub const REAL: usize = 1;
+/// What a check is held to beside the oracles, if anything.
+pub const MORE: usize = 2;
 
 /// The highest refusal number that a check can count.
 const NUMBERS: usize = 32;
 
-#[derive(Default)]
+/// One thing that a function is held to.
 struct Against {
+    name: &'static str,
     listed: u64,
+    our_rule: u64,
     differ: u64,
     faults: u64,
     smallest: Option<(Size, String)>,
+}
+
+impl Against {
+    fn new(name: &'static str) -> Self {
+        Against { name, listed: 0, our_rule: 0, differ: 0, faults: 0, smallest: None }
+    }
 }
 
 /// One function of the proved code, held to both oracles.
@@ -47,12 +59,19 @@ pub struct Check {
     listed: bool,
     cases: u64,
     met: [u64; NUMBERS],
-    against: [Against; 2],
+    against: Vec<Against>,
 }
 
 impl Check {
     pub fn new(name: &'static str, numbers: &'static [u32]) -> Self {
-        Check { name, numbers, listed: false, cases: 0, met: [0; NUMBERS], against: Default::default() }
+        let against = ORACLES.map(Against::new).into();
+        Check { name, numbers, listed: false, cases: 0, met: [0; NUMBERS], against }
+    }
+
+    /// Holds it to one more thing, whose place is `MORE`.
+    pub fn and_to(mut self, name: &'static str) -> Self {
+        self.against.push(Against::new(name));
+        self
     }
 
     pub fn with_listed_difference(self) -> Self {
@@ -66,11 +85,12 @@ impl Check {
     }
 
     /// Keeps a verdict, and the text of the case if no smaller one had this kind of fault.
-    pub fn judge(&mut self, oracle: usize, size: Size, verdict: Verdict, tell: impl FnOnce() -> String) {
-        let against = &mut self.against[oracle];
+    pub fn judge(&mut self, place: usize, size: Size, verdict: Verdict, tell: impl FnOnce() -> String) {
+        let against = &mut self.against[place];
         match verdict {
             Verdict::Equal => return,
             Verdict::Listed => return against.listed += 1,
+            Verdict::OurRule => return against.our_rule += 1,
             Verdict::Differs => against.differ += 1,
             Verdict::Fault => against.faults += 1,
         }
@@ -103,7 +123,19 @@ impl Check {
 /// A case in words, with both answers.
 pub fn told<T: Display>(case: String, ours: &T, theirs: &Option<T>) -> String {
     let theirs = theirs.as_ref().map_or("panicked".to_string(), |their| their.to_string());
-    format!("{}\n        proved code: {}\n        oracle:      {}", case, ours, theirs)
+    told_both(case, ours, "oracle", &theirs)
+}
+
+/// The same, with whose answer the other one is.
+pub fn told_both(case: String, ours: &impl Display, whose: &str, theirs: &impl Display) -> String {
+    format!("{}\n        proved code: {}\n        {:12} {}", case, ours, format!("{}:", whose), theirs)
+}
+
+/// Where an answer need not be equal, if that was met at all.
+fn but_for(cases: &[(u64, &str)]) -> String {
+    let met = cases.iter().filter(|(times, _)| *times > 0);
+    let words: Vec<_> = met.map(|(times, what)| format!("{} {}", times, what)).collect();
+    if words.is_empty() { String::new() } else { format!(", but for {}", words.join(" and ")) }
 }
 
 /// What the oracle gives, or nothing if it panics.
@@ -129,15 +161,15 @@ impl Report {
     /// Tells of a function once all its cases were tried, and counts its checks.
     pub fn close(&mut self, check: Check) {
         println!("{}: {} cases", check.name, check.cases);
-        for (oracle, against) in ORACLES.iter().zip(&check.against) {
+        for against in &check.against {
             let passed = check.cases > 0 && against.differ + against.faults == 0;
             self.note(passed);
-            if passed && against.listed > 0 {
-                println!("    equal to {}, but for {} cases of the listed difference", oracle, against.listed);
-            } else if passed {
-                println!("    equal to {}", oracle);
+            if passed {
+                let listed = (against.listed, "of the listed difference");
+                let our_rule = (against.our_rule, "refused by a rule that it does not have");
+                println!("    equal to {}{}", against.name, but_for(&[listed, our_rule]));
             } else {
-                println!("    FAILED against {}: {} differ, {} panics", oracle, against.differ, against.faults);
+                println!("    FAILED against {}: {} differ, {} panics", against.name, against.differ, against.faults);
             }
             if let Some((_, text)) = &against.smallest {
                 println!("    smallest: {}", text);

@@ -1,16 +1,28 @@
-// answers FOLDER: writes FOLDER/stdin and FOLDER/stdout, the stored cases of the program `replay` and
-// their answers. The same words give the same bytes on every machine.
+// answers FOLDER [CODER..]: writes FOLDER/stdin and FOLDER/stdout, the stored cases of the program `replay`
+// and their answers: those of the bit layer, then those of each coder named. The same words give the same
+// bytes on every machine.
 //
 // An answer is what the plain bit layer of the oracle does: its reader reads, its writer writes, its
 // error is refusal 5. Only what that layer has no notion of is decided here: the limits on widths,
 // caps and room. The code under test has no part in it.
+use std::collections::HashSet;
 use std::fs;
 use std::path::Path;
 
 use oracle_plain::bitstream::{BitReader, BitWriter};
 
+mod coefficients;
+// shared with the comparison, which uses more of them
+#[path = "../compare/lists.rs"]
+#[allow(dead_code)]
+mod lists;
+#[allow(dead_code)]
+mod model;
 #[path = "../compare/random.rs"]
 mod random;
+mod refusal;
+#[path = "../compare/streams.rs"]
+mod streams;
 use random::Random;
 
 const SEED: u64 = 36;
@@ -18,6 +30,7 @@ const SEED: u64 = 36;
 /// The cases so far, one a line, and the answer to each.
 #[derive(Default)]
 struct Stored {
+    seen: HashSet<String>,
     cases: String,
     answers: String,
 }
@@ -25,7 +38,7 @@ struct Stored {
 impl Stored {
     fn add(&mut self, case: String, answer: String) {
         // edges meet: a case is stored once
-        if self.cases.lines().any(|line| line == case) {
+        if !self.seen.insert(case.clone()) {
             return;
         }
         self.cases += &(case + "\n");
@@ -278,7 +291,8 @@ fn random_place(random: &mut Random, payload: &[u8]) -> u64 {
 }
 
 fn main() {
-    let folder = std::env::args().nth(1).expect("usage: answers FOLDER");
+    let mut words = std::env::args().skip(1);
+    let folder = words.next().expect("usage: answers FOLDER [CODER..]");
     let mut stored = Stored::default();
     read_edges(&mut stored);
     zero_prefix_edges(&mut stored);
@@ -286,6 +300,12 @@ fn main() {
     put_edges(&mut stored);
     bad_lines(&mut stored);
     random_cases(&mut stored);
+    for coder in words {
+        match coder.as_str() {
+            "coefficients" => coefficients::add_to(&mut stored),
+            _ => panic!("there are no cases of {}", coder),
+        }
+    }
     fs::write(Path::new(&folder).join("stdin"), &stored.cases).expect("the cases are written");
     fs::write(Path::new(&folder).join("stdout"), &stored.answers).expect("the answers are written");
 }

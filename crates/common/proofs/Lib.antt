@@ -1,1 +1,4 @@
+pub mod Choices
+pub mod Fills
+pub mod Integers
 pub mod Numbers

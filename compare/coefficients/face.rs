@@ -1,0 +1,326 @@
+// One call of decode or encode: what the proved code did, and how that is judged.
+//
+// What we accept both oracles accept, with equal coefficients and, where the plain bit layer tells them,
+// equal bits; but for the listed difference in the end of data. Where we refuse with 5, 6 or 7, the plain
+// one gives that very error and the other gives one. The refusals 1 to 4 and 8, the state of every lent
+// list and buffer and the bound on a code are rules of document 01 alone: oracle/model.rs has them.
+use std::fmt;
+
+use crate::cases::{shown, shown_list, Lent};
+use crate::model::{self, MOST_BLOCKS, MOST_BYTES};
+use crate::oracles::{plain, real};
+use crate::probe;
+use crate::report::{guarded, told_both, Check, Report, Size, Verdict, MORE, PLAIN, REAL};
+
+// ---- one call of decode
+
+/// What a list holds before a call, at each place something else.
+fn old_coefficient(place: usize) -> i32 {
+    0x3a5c_0000 ^ place as i32
+}
+
+/// What a call of decode answered, and the list after it.
+#[derive(PartialEq)]
+struct Decoded<'a> {
+    number: u32,
+    bits: usize,
+    list: &'a [i32],
+    inside: bool,
+}
+
+impl fmt::Display for Decoded<'_> {
+    fn fmt(&self, f: &mut fmt::Formatter<'_>) -> fmt::Result {
+        match self.number {
+            0 => write!(f, "{} bits, ", self.bits)?,
+            number if self.bits == 0 => write!(f, "refused {}, ", number)?,
+            number => write!(f, "refused {} with {} bits, ", number, self.bits)?,
+        }
+        if !self.list.is_empty() && self.list.iter().enumerate().all(|(place, &value)| value == old_coefficient(place)) {
+            write!(f, "list as it was")?;
+        } else {
+            write!(f, "list {}", shown_list(self.list))?;
+        }
+        write!(f, "{}", if self.inside { "" } else { ", and coefficients outside the list changed" })
+    }
+}
+
+/// What the Rust gave: coefficients or the number of its error.
+type Theirs = Option<Result<Vec<i32>, u32>>;
+
+fn told_theirs(theirs: &Theirs, bits: Option<usize>) -> String {
+    match (theirs, bits) {
+        (None, _) => "panicked".to_string(),
+        (Some(Err(number)), _) => format!("the error of refusal {}", number),
+        (Some(Ok(list)), None) => format!("list {}", shown_list(list)),
+        (Some(Ok(list)), Some(bits)) => format!("{} bits, list {}", bits, shown_list(list)),
+    }
+}
+
+/// Whether refusal 8 is explained: a whole number is out of range, and where the Rust, which goes on there,
+/// gives a list, that has it too. Below 2^30 none of its sums and symbols has wrapped.
+fn explains_8(exact: &[i64], theirs: &Theirs) -> bool {
+    let Some(place) = exact.iter().position(|&value| !model::in_range(value)) else { return false };
+    match theirs {
+        Some(Ok(list)) if exact[place].abs() < 1 << 30 => {
+            list[..=place].iter().map(|&value| i64::from(value)).eq(exact[..=place].iter().copied())
+        }
+        _ => true,
+    }
+}
+
+/// Whether bitstream.rs, like RDD 36, does not see that data has ended: more than 31 bits are left, all of
+/// them zero (or we would not have stopped), and coefficients are still to come, since the last is 0.
+fn listed_difference(payload: &[u8], ours: &Decoded<'_>) -> bool {
+    (8 * payload.len()).saturating_sub(ours.bits) > 31 && ours.list.last() == Some(&0)
+}
+
+fn of_plain(ours: &Decoded<'_>, exact: &[i64], theirs: &Theirs, bits: usize) -> Verdict {
+    match (ours.number, theirs) {
+        (0, Some(Ok(list))) if list == ours.list && bits == ours.bits => Verdict::Equal,
+        (5..=7, &Some(Err(number))) if number == ours.number => Verdict::Equal,
+        (8, _) if explains_8(exact, theirs) => Verdict::OurRule,
+        (_, None) => Verdict::Fault,
+        _ => Verdict::Differs,
+    }
+}
+
+fn of_real(ours: &Decoded<'_>, exact: &[i64], theirs: &Theirs, payload: &[u8]) -> Verdict {
+    match (ours.number, theirs) {
+        // the listed difference is one in each direction: where it is said to be, it must be
+        (0, Some(Err(_))) if listed_difference(payload, ours) => Verdict::Listed,
+        (0, Some(Ok(list))) if !listed_difference(payload, ours) && list == ours.list => Verdict::Equal,
+        (5..=7, Some(Err(_))) => Verdict::Equal,
+        (8, _) if explains_8(exact, theirs) => Verdict::OurRule,
+        (_, None) => Verdict::Fault,
+        _ => Verdict::Differs,
+    }
+}
+
+// ---- one call of encode
+
+/// What a buffer holds before a call.
+fn old_byte(place: usize) -> u8 {
+    0xa5 ^ place as u8
+}
+
+/// What a call of encode answered, and the buffer after it.
+#[derive(PartialEq)]
+struct Encoded {
+    number: u32,
+    bytes: usize,
+    bits: usize,
+    buffer: Vec<u8>,
+    inside: bool,
+}
+
+impl Encoded {
+    fn refused(number: u32, bytes: usize, room: usize) -> Self {
+        Encoded { number, bytes, bits: 0, buffer: (0..room).map(old_byte).collect(), inside: true }
+    }
+
+    /// What document 01 makes of a code and the room for it.
+    fn of_code(code: &[u8], bits: usize, room: usize) -> Self {
+        if code.len() > room {
+            return Encoded::refused(3, code.len(), room);
+        }
+        let buffer = code.iter().copied().chain((code.len()..room).map(old_byte)).collect();
+        Encoded { number: 0, bytes: code.len(), bits, buffer, inside: true }
+    }
+
+    /// The code, without what stands behind it.
+    fn code(&self) -> &[u8] {
+        &self.buffer[..self.bytes.min(self.buffer.len())]
+    }
+}
+
+impl fmt::Display for Encoded {
+    fn fmt(&self, f: &mut fmt::Formatter<'_>) -> fmt::Result {
+        match self.number {
+            0 => write!(f, "{} bytes, {} bits, ", self.bytes, self.bits)?,
+            number => write!(f, "refused {} with {} bytes and {} bits, ", number, self.bytes, self.bits)?,
+        }
+        if !self.buffer.is_empty() && self.buffer.iter().enumerate().all(|(place, &byte)| byte == old_byte(place)) {
+            write!(f, "buffer as it was")?;
+        } else {
+            write!(f, "buffer {}", shown(&self.buffer))?;
+        }
+        write!(f, "{}", if self.inside { "" } else { ", and bytes outside the buffer changed" })
+    }
+}
+
+/// What document 01 says of any accepted code, whoever wrote it.
+fn bytes_fit(ours: &Encoded, list: &[i32]) -> bool {
+    match ours.number {
+        0 => ours.bytes == (ours.bits + 7) / 8 && ours.bytes <= model::most_code(list),
+        3 => ours.bytes <= model::most_code(list),
+        _ => true,
+    }
+}
+
+// ---- both functions
+
+pub struct Face {
+    decode: Check,
+    encode: Check,
+    payload: Lent,
+    list: Lent<i32>,
+    /// The list that encode reads and the buffer that it writes.
+    source: Lent<i32>,
+    buffer: Lent,
+    /// What the model read, and what the list must be for it.
+    exact: Vec<i64>,
+    expected: Vec<i32>,
+}
+
+impl Face {
+    pub fn new() -> Self {
+        let rules = "document 01's rules";
+        Face {
+            decode: Check::new("decode", &[0, 1, 2, 5, 6, 7, 8]).with_listed_difference().and_to(rules),
+            encode: Check::new("encode", &[0, 1, 2, 3, 4]).and_to("document 01's rules, and read back as the list"),
+            payload: Lent::new(&[]),
+            list: Lent::new(&[]),
+            source: Lent::new(&[]),
+            buffer: Lent::new(&[]),
+            exact: Vec::new(),
+            expected: Vec::new(),
+        }
+    }
+
+    pub fn close(self, report: &mut Report) {
+        report.close(self.decode);
+        report.close(self.encode);
+    }
+
+    /// Decodes into a list of the length that the blocks ask for.
+    pub fn decode(&mut self, payload: &[u8], blocks: usize) {
+        self.decode_into(payload, blocks, 64 * blocks);
+    }
+
+    /// Decodes into a list of any length, and tells what the proved code answered.
+    pub fn decode_into(&mut self, payload: &[u8], blocks: usize, length: usize) -> (u32, usize) {
+        self.expected.clear();
+        self.expected.extend((0..length).map(old_coefficient));
+        self.payload.set(payload);
+        self.list.set(&self.expected);
+        let (number, bits) = probe::decode(self.payload.items(), blocks, self.list.items_mut());
+        let ours = Decoded { number, bits, list: self.list.items(), inside: self.list.guards_stand() };
+        self.decode.count(number);
+
+        let size = Size { bytes: payload.len(), at: blocks, width: length as u64 };
+        let case = || format!("decode {} blocks into a list of {} from {}", blocks, length, shown(payload));
+        let arguments = model::decode_arguments(payload, blocks, length);
+        let by_rule = arguments.and_then(|()| model::decode(payload, blocks, &mut self.exact));
+        match (arguments, by_rule) {
+            (Err(_), _) => {}
+            (Ok(()), Err(_)) => self.expected.fill(0),
+            (Ok(()), Ok(_)) => self.expected.iter_mut().zip(&self.exact).for_each(|(to, &from)| *to = from as i32),
+        }
+        let (number, bits) = by_rule.map_or_else(|number| (number, 0), |bits| (0, bits));
+        let theirs = Decoded { number, bits, list: &self.expected, inside: true };
+        let verdict = if ours == theirs { Verdict::Equal } else { Verdict::Differs };
+        self.decode.judge(MORE, size, verdict, || told_both(case(), &ours, "by rule", &theirs));
+
+        // the Rust has no such rules, and a count far past them would only take its memory
+        if arguments.is_err() {
+            let verdict = if ours.number == 0 { Verdict::Differs } else { Verdict::OurRule };
+            for oracle in [PLAIN, REAL] {
+                self.decode.judge(oracle, size, verdict, || told_both(case(), &ours, "by rule", &theirs));
+            }
+            return (ours.number, ours.bits);
+        }
+        let theirs = guarded(|| plain::decode(payload, blocks));
+        let bits = if blocks == 0 { 0 } else { oracle_plain::bitstream::bits_read() };
+        let verdict = of_plain(&ours, &self.exact, &theirs, bits);
+        let tell = |theirs| told_both(case(), &ours, "oracle", &theirs);
+        self.decode.judge(PLAIN, size, verdict, || tell(told_theirs(&theirs, Some(bits))));
+        let theirs = guarded(|| real::decode(payload, blocks));
+        let verdict = of_real(&ours, &self.exact, &theirs, payload);
+        self.decode.judge(REAL, size, verdict, || tell(told_theirs(&theirs, None)));
+        (ours.number, ours.bits)
+    }
+
+    /// Encodes into buffers with more than enough room, just enough, a byte less, and none, and reads the code
+    /// back.
+    pub fn encode(&mut self, list: &[i32], blocks: usize) {
+        if let Err(number) = model::encode_arguments(list, blocks) {
+            let most = 8 * 63 * blocks.min(MOST_BLOCKS + 1);
+            [0, 1, most, most + 7].iter().for_each(|&room| self.refused_encode(list, blocks, room, number));
+            return;
+        }
+        let by_plain = guarded(|| plain::encode(list, blocks));
+        let bits = oracle_plain::bitstream::bits_written();
+        let by_real = guarded(|| real::encode(list, blocks));
+        let needed = by_plain.as_ref().map_or(0, Vec::len);
+        let most = 8 * 63 * blocks;
+        let rooms = [needed, needed.saturating_sub(1), needed + 1, needed + 9, most, most.saturating_sub(1), most + 8, 0];
+        for (i, &room) in rooms.iter().enumerate() {
+            if rooms[..i].contains(&room) {
+                continue;
+            }
+            let ours = self.encoded(list, blocks, room);
+            let theirs = [&by_plain, &by_real].map(|code| code.as_ref().map(|code| Encoded::of_code(code, bits, room)));
+            let size = encode_size(list, room);
+            let case = || encode_case(list, blocks, room);
+            self.encode.hold(size, ours.number, &ours, theirs, case);
+            let read_back = room != needed || ours.number != 0 || self.reads_back(&ours, list, blocks);
+            let verdict = if read_back && bytes_fit(&ours, list) { Verdict::Equal } else { Verdict::Differs };
+            self.encode.judge(MORE, size, verdict, || match read_back {
+                true => told_both(case(), &ours, "by rule", &format!("at most {} bytes", model::most_code(list))),
+                false => told_both(case(), &ours, "reads it as", &read(&ours, blocks)),
+            });
+        }
+    }
+
+    fn refused_encode(&mut self, list: &[i32], blocks: usize, room: usize, number: u32) {
+        let ours = self.encoded(list, blocks, room);
+        let theirs = Encoded::refused(number, 0, room);
+        let size = encode_size(list, room);
+        let case = || encode_case(list, blocks, room);
+        self.encode.count(ours.number);
+        let verdict = if ours == theirs { Verdict::Equal } else { Verdict::Differs };
+        self.encode.judge(MORE, size, verdict, || told_both(case(), &ours, "by rule", &theirs));
+        for oracle in [PLAIN, REAL] {
+            let verdict = if ours.number == 0 { Verdict::Differs } else { Verdict::OurRule };
+            self.encode.judge(oracle, size, verdict, || told_both(case(), &ours, "by rule", &theirs));
+        }
+    }
+
+    fn encoded(&mut self, list: &[i32], blocks: usize, room: usize) -> Encoded {
+        let old: Vec<u8> = (0..room).map(old_byte).collect();
+        self.source.set(list);
+        self.buffer.set(&old);
+        let (number, bytes, bits) = probe::encode(self.source.items(), blocks, self.buffer.items_mut());
+        Encoded { number, bytes, bits, buffer: self.buffer.items().to_vec(), inside: self.buffer.guards_stand() }
+    }
+
+    /// Whether our decode reads the code as the list that it was made of, bit for bit as long; alone, and with
+    /// zero bytes behind it.
+    fn reads_back(&mut self, ours: &Encoded, list: &[i32], blocks: usize) -> bool {
+        // as many as a payload may have take long, so not at every list
+        let zeros: &[usize] = if ours.bits % 16 == 0 { &[0, 1, 4, 5, MOST_BYTES] } else { &[0, 1, 4, 5] };
+        let mut payload = ours.code().to_vec();
+        zeros.iter().all(|&zeros| {
+            payload.resize((ours.code().len() + zeros).min(MOST_BYTES), 0);
+            self.decode_into(&payload, blocks, list.len()) == (0, ours.bits) && self.list.items() == list
+        })
+    }
+}
+
+/// What our decode makes of a code.
+fn read(ours: &Encoded, blocks: usize) -> String {
+    let mut list = vec![0; 64 * blocks];
+    let (number, bits) = probe::decode(ours.code(), blocks, &mut list);
+    Decoded { number, bits, list: &list, inside: true }.to_string()
+}
+
+/// Fewer coefficients are smaller, then fewer that are not 0, then smaller ones, then less room.
+fn encode_size(list: &[i32], room: usize) -> Size {
+    let magnitudes: u64 = list.iter().map(|value| u64::from(value.unsigned_abs())).sum();
+    let at = list.iter().filter(|&&value| value != 0).count();
+    Size { bytes: list.len(), at, width: (magnitudes << 16) + room as u64 }
+}
+
+fn encode_case(list: &[i32], blocks: usize, room: usize) -> String {
+    format!("encode {} blocks from a list of {}, {}, into {} bytes", blocks, list.len(), shown_list(list), room)
+}

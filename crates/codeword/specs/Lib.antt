@@ -1,0 +1,4 @@
+pub mod Codewords
+pub mod Books
+pub mod Signs
+pub mod Words

@@ -1,0 +1,61 @@
+// Codewords: document 01, sections Codewords and Choice of codebook; the first half of entropy.rs.
+ghost use mathlib.Core.Path.{_≡_};
+ghost use Prim.Native.Nat.{_+_, _≤_, _<_};
+ghost use Rattle.bitstream.specs.Told.{told, outcomeAt};
+ghost use Rattle.codeword.specs.Codewords.{code, readCode};
+ghost use Rattle.codeword.specs.Books.{InUse};
+ghost use Rattle.codeword.specs.Words.{Spells};
+use bitstream::Cursor;
+use bitstream::Read;
+
+pub mod books; // which codebook comes next
+pub mod signs; // S(n), and the negation of a DC difference
+mod read; // a codeword at a cursor
+pub mod words; // a codeword as one field
+pub mod put; // a codeword into a buffer
+
+pub enum Codebook {
+    ExpGolomb(u32),
+    RiceExp {
+        last_rice_q: u32,
+        k_rice: u32,
+        k_exp: u32,
+    },
+}
+
+// A codeword: the len low bits of bits.
+pub struct Word {
+    pub len: u32,
+    pub bits: u64,
+}
+
+impl Codebook {
+    // The symbol at a cursor. Every parameter is answered, and none can overflow.
+    pub fn read(self, payload: &[u8], c: Cursor) -> Read
+        ensures { λ r. ⌜ told r ≡ outcomeAt (readCode self) (now (payload .entry)) (c .at) ⌝ }
+    {
+        match self {
+            Codebook::ExpGolomb(k) => read::read_exp_golomb(payload, c, k),
+            Codebook::RiceExp {
+                last_rice_q,
+                k_rice,
+                k_exp,
+            } => read::read_combo(payload, c, last_rice_q, k_rice, k_exp),
+        }
+    }
+
+    // The codeword of any symbol n, in one of the codebooks in use.
+    pub fn word(self, n: u32) -> Word
+        requires { ⌜ InUse self ⌝ }
+        ensures { λ r. ⌜ Spells (code self n) (r .len) (r .bits) ⌝ }
+    {
+        match self {
+            Codebook::ExpGolomb(k) => words::exp_golomb_word(k, n),
+            Codebook::RiceExp {
+                last_rice_q,
+                k_rice,
+                k_exp,
+            } => words::combo_word(last_rice_q, k_rice, k_exp, n),
+        }
+    }
+}

@@ -1,0 +1,105 @@
+-- What is demanded of the coder above everything, as theorems over the definitions that the two public functions are held to, for 0 to 32 blocks:
+-- the count of bits, the size bound, exact room, and that every coefficient comes back.
+-- Assumes nothing.
+use Prim.Native.Nat.{ℕ, zero, suc, _+_, _-_, _*_, _/_, _^_, _≤_, _<_}
+use native.Mathlib.Nat.{le-trans, mul-le-mul}
+use native.Mathlib.Omega.{arith}
+use mathlib.Core.Path.{_≡_, refl, sym, ap, ap₂, _∙_, subst}
+use mathlib.Core.Bool.{Bool, true, false, _&&_}
+use mathlib.Core.List.{List, [], _∷_, _++_, append-assoc, append-nil}
+use lib.IntN.{ℤ, natAbs}
+use lib.ListN.{length, take, replicate, length-append, length-replicate}
+use lib.Pow.{pow-mono}
+use Rattle.bitstream.specs.Bits.{field, bitsOf, zeros, ended}
+use Rattle.bitstream.specs.Bytes.{bytesFor, pack, stored}
+use Rattle.bitstream.specs.Machine.{accepted}
+use Rattle.bitstream.specs.Told.{payloadLimit}
+use Rattle.bitstream.proofs.BitsLaws.{bits-append, length-bits}
+use Rattle.bitstream.proofs.BytesLaws.{bits-pack, length-pack, stored-payload}
+use Rattle.bitstream.proofs.PlaceLaws.{ended-append, ended-zeros}
+use Rattle.entropy.specs.Elements.{size, elementsOf, encode}
+use Rattle.entropy.specs.Decoding.{most, decode, OutC}
+use Rattle.entropy.specs.Answers.{blockLimit, Decoding, decoding, read, settled, decodeOf, Encoding, encoding, wrote, needs, encodeOf}
+use Rattle.entropy.proofs.RoundTrip.{Small, decode-encode}
+use Rattle.entropy.proofs.SizeLaws.{Below, encode-length, size-le}
+use Rattle.entropy.specs.Writing.{Fine}
+use Rattle.entropy.proofs.RangeLaws.{inRange-small}
+use Rattle.entropy.proofs.DecodeLaws.{decodeOf-fits}
+use Rattle.entropy.proofs.EncodeLaws.{encode-room, encode-done}
+
+-- the coefficients of b blocks, each below 2^w
+pub record Given (b w : ℕ) (cs : List ℤ) : Type 0 where
+  pub blocks : b ≤ blockLimit
+  pub all : length cs ≡ 64 * b
+  pub width : w ≤ 29
+  pub below : Below w cs
+
+below-small : (w : ℕ) (cs : List ℤ) → w ≤ 29 → Below w cs → Small cs
+below-small w [] h b = tt
+below-small w (c ∷ cs) h b = let p : 2 ^ w ≤ 2 ^ 29 = pow-mono {j = 29} h in let a = b .0 in (omega arith, below-small w cs h (b .1))
+
+below-limit : (b w : ℕ) → b ≤ 32 → w ≤ 29 → 8 * b * (2 * w + 5) ≤ 8 * 32 * (2 * 29 + 5)
+below-limit b w hb hw = mul-le-mul {n₁ = 8 * b} {m₁ = 2 * w + 5} {n₂ = 8 * 32} {m₂ = 2 * 29 + 5} (omega arith) (omega arith)
+
+zero-bytes : (k : ℕ) → ended (bitsOf (replicate k 0)) ≡ true
+unfolding bitsOf field ended
+zero-bytes zero = refl
+zero-bytes (suc k) = zero-bytes k
+
+module _ (b w : ℕ) (cs : List ℤ) (g : Given b w cs) where
+  small : Small cs
+  small = below-small w cs (g .width) (g .below)
+
+  -- the bits are the sum of the codeword lengths and sign bits
+  pub bits-sum : length (encode b cs) ≡ size (elementsOf b cs)
+  bits-sum = encode-length b cs (omega (arith, g .blocks, g .all)) small
+
+  -- the bytes are bits / 8 rounded up, and at most 8 x blocks x (2w + 5)
+  pub bytes-le : bytesFor (length (encode b cs)) ≤ 8 * b * (2 * w + 5)
+  bytes-le =
+      let s : size (elementsOf b cs) ≤ (2 * w + 5) * length cs = size-le w b cs (omega (arith, g .width)) (g .all) (omega (arith, g .blocks)) (g .below) in
+      let e : (2 * w + 5) * length cs ≡ 8 * (8 * b * (2 * w + 5)) = ap (λ (n : ℕ). (2 * w + 5) * n) (g .all) ∙ omega arith in
+      omega (arith, bits-sum)
+
+  -- ---- room
+
+  fine : Fine b cs
+  fine = record { few = g .blocks; full = g .all; small = inRange-small cs small }
+
+  -- it is refused exactly if the buffer is shorter than those bytes, which are reported; the buffer is untouched
+  pub room-none : (old : List ℕ) → length old < bytesFor (length (encode b cs)) → encodeOf cs b old ≡ encoding (needs (bytesFor (length (encode b cs)))) old
+  room-none old h = sym (encode-room old fine refl h)
+
+  pub room-enough : (old : List ℕ) → bytesFor (length (encode b cs)) ≤ length old
+      → encodeOf cs b old ≡ encoding (wrote (bytesFor (length (encode b cs))) (length (encode b cs))) (stored old (encode b cs))
+  room-enough old h = sym (encode-done old fine refl h refl refl)
+
+  -- ---- every coefficient comes back
+
+  -- the bytes of the code, alone (k = 0) or followed by k zero bytes up to the limit, give the same coefficients and bit count
+  pub bytes-back : (k : ℕ) (list : List ℤ) → length (pack (encode b cs) ++ replicate k 0) ≤ payloadLimit → length list ≡ 64 * b
+      → decodeOf (pack (encode b cs) ++ replicate k 0) b list ≡ decoding (read (length (encode b cs))) cs
+  bytes-back k list fits len =
+      let code : List Bool = encode b cs in
+      let payload : List ℕ = pack code ++ replicate k 0 in
+      let pad : List Bool = zeros (8 * bytesFor (length code) - length code) in
+      let rest : List Bool = pad ++ bitsOf (replicate k 0) in
+      let split : bitsOf payload ≡ code ++ rest =
+      bits-append (pack code) (replicate k 0) ∙ ap (λ (t : List Bool). t ++ bitsOf (replicate k 0)) (bits-pack code) ∙ append-assoc code pad (bitsOf (replicate k 0)) in
+      let over : ended rest ≡ true = ended-append pad (bitsOf (replicate k 0)) ∙ ap₂ (λ (x y : Bool). x && y) (ended-zeros (8 * bytesFor (length code) - length code)) (zero-bytes k) in
+      let back : decode b (bitsOf payload) ≡ accepted cs rest = ap (decode b) split ∙ decode-encode b cs rest (g .all) (omega (arith, g .blocks)) small over in
+      let count : length (bitsOf payload) - length rest ≡ length code = omega (arith, ap length split ∙ length-append code rest) in
+      decodeOf-fits payload b list (g .blocks) fits len
+      ∙ ap (λ (o : OutC). settled (bitsOf payload) (length list) o) back
+      ∙ ap (λ (n : ℕ). decoding (read n) cs) count
+
+  -- what encode leaves in a buffer with room, whatever the buffer held and however long it is, decode reads back from its first bytes
+  pub encode-decode : (old : List ℕ) (list : List ℤ) → bytesFor (length (encode b cs)) ≤ length old → length list ≡ 64 * b
+      → decodeOf (take (bytesFor (length (encode b cs))) (encodeOf cs b old .buffer)) b list ≡ decoding (read (length (encode b cs))) cs
+  encode-decode old list room len =
+      let code : List Bool = encode b cs in
+      let first : take (bytesFor (length code)) (encodeOf cs b old .buffer) ≡ pack code ++ replicate 0 0 =
+      ap (λ (x : Encoding). take (bytesFor (length code)) (x .buffer)) (room-enough old room) ∙ stored-payload old code ∙ sym (append-nil (pack code)) in
+      let few : bytesFor (length code) ≤ 8 * 32 * (2 * 29 + 5) = le-trans bytes-le (below-limit b w (g .blocks) (g .width)) in
+      ap (λ (p : List ℕ). decodeOf p b list) first
+      ∙ bytes-back 0 list (omega (arith, length-append (pack code) (replicate 0 0), length-pack code)) len

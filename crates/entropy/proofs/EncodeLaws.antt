@@ -1,0 +1,66 @@
+-- Laws of `encodeOf`, case by case.
+-- Assumes nothing.
+use Prim.Native.Nat.{ℕ, _*_, _≤_, _<_}
+use mathlib.Core.Path.{_≡_, refl, sym}
+use mathlib.Core.Bool.{Bool, true, false, not}
+use mathlib.Core.List.{List, []}
+use lib.IntN.{ℤ}
+use lib.ListN.{length}
+use borrow.Author.Tests.{le-leb, lt-leb, eq-eqb, ne-eqb}
+use Rattle.bitstream.specs.Bytes.{bytesFor, stored}
+use Rattle.entropy.specs.Elements.{bits, elementsOf, encode}
+use Rattle.entropy.specs.Answers.{blockLimit, inRange, encoding, wrote, needs, declines, written, encodeOf}
+use Rattle.entropy.specs.Writing.{Fine}
+
+-- no blocks have no code
+pub encode-none : {b : ℕ} (cs : List ℤ) → b ≡ 0 → encode b cs ≡ []
+unfolding encode elementsOf bits
+encode-none cs e = rw e
+
+-- ---- refusals
+
+module _ (cs : List ℤ) (b : ℕ) (old : List ℕ) where
+  pub encode-limit : blockLimit < b → encodeOf cs b old ≡ encoding (declines 1) old
+  unfolding encodeOf
+  encode-limit h = simp (lt-leb b blockLimit h)
+
+  module _ (few : b ≤ blockLimit) where
+    pub encode-not-full : (length cs ≡ 64 * b → ⊥) → encodeOf cs b old ≡ encoding (declines 2) old
+    unfolding encodeOf
+    encode-not-full h = simp (le-leb b blockLimit few, ne-eqb (length cs) (64 * b) h)
+
+    pub encode-out : length cs ≡ 64 * b → inRange cs ≡ false → encodeOf cs b old ≡ encoding (declines 4) old
+    unfolding encodeOf
+    encode-out h r = simp (le-leb b blockLimit few, eq-eqb (length cs) (64 * b) h, r)
+
+-- ---- no room, and done
+
+module _ {b n : ℕ} {cs : List ℤ} (old : List ℕ) (f : Fine b cs) (counted : n ≡ length (encode b cs)) where
+  fine : encodeOf cs b old ≡ written (encode b cs) old
+  unfolding encodeOf
+  fine = simp (le-leb b blockLimit (f .few), eq-eqb (length cs) (64 * b) (f .full), f .small)
+
+  pub encode-room : length old < bytesFor n → encoding (needs (bytesFor n)) old ≡ encodeOf cs b old
+  unfolding written
+  encode-room h = rw (fine, ← counted) (sym (simp (lt-leb (bytesFor n) (length old) h)))
+
+  pub encode-done : {r : ℕ} {buf : List ℕ} → bytesFor n ≤ length old → r ≡ length (encode b cs) → buf ≡ stored old (encode b cs)
+      → encoding (wrote (bytesFor n) r) buf ≡ encodeOf cs b old
+  unfolding written
+  encode-done h e s = rw (fine, e, s, ← counted) (sym (simp (le-leb (bytesFor n) (length old) h)))
+
+-- ---- the test of the range
+
+pub range-true : (cs : List ℤ) → not (inRange cs) ≡ false → inRange cs ≡ true
+range-true cs e = go (inRange cs) e
+  where
+    go : (x : Bool) → not x ≡ false → x ≡ true
+    go true e = refl
+    go false e = sym e
+
+pub range-false : (cs : List ℤ) → not (inRange cs) ≡ true → inRange cs ≡ false
+range-false cs e = go (inRange cs) e
+  where
+    go : (x : Bool) → not x ≡ true → x ≡ false
+    go true e = sym e
+    go false e = refl

@@ -1,0 +1,89 @@
+-- What the two public functions answer, and what each lent buffer then holds: document 01, "Refusal numbers" and the limits.
+use Prim.Native.Nat.{ℕ, _+_, _-_, _*_, _^_}
+use mathlib.Core.Bool.{Bool, true, false, cond, _&&_}
+use mathlib.Core.List.{List, [], _∷_}
+use lib.Dec.{leb, eqb}
+use lib.IntN.{ℤ, natAbs}
+use lib.ListN.{length}
+use Rattle.bitstream.specs.Bits.{bitsOf}
+use Rattle.bitstream.specs.Bytes.{bytesFor, stored}
+use Rattle.bitstream.specs.Machine.{accepted, rejected, going}
+use Rattle.bitstream.specs.Told.{payloadLimit, numberOf}
+use Rattle.entropy.specs.Elements.{encode}
+use Rattle.entropy.specs.Decoding.{most, nil, OutC, decode}
+use Rattle.entropy.specs.declared.Decoded.{Decoded}
+use Rattle.entropy.specs.declared.Decoded.the-variants.{Done, Refused}
+use Rattle.entropy.specs.declared.Encoded.{Encoded}
+use Rattle.entropy.specs.declared.Encoded.the-variants.{Done as Written, Room, Refused as NotWritten}
+
+-- blocks per call
+abbrev pub blockLimit : ℕ
+blockLimit = 32
+
+-- ---- decoding: done with the bits read, or a refusal's number; and the list
+
+pub data DecodeAnswer : Type 0 where
+  read : ℕ → DecodeAnswer
+  refuse : ℕ → DecodeAnswer
+
+pub record Decoding : Type 0 where
+  pub answer : DecodeAnswer
+  pub list : List ℤ
+
+abbrev pub toldDecoded : Decoded → DecodeAnswer
+toldDecoded (Done n) = read n
+toldDecoded (Refused r) = refuse (numberOf r)
+
+abbrev pub decoding : DecodeAnswer → List ℤ → Decoding
+decoding a l = record { answer = a; list = l }
+
+-- what a reading of the bits bs comes to, for a list of n coefficients: a refusal sets the whole list to zero
+abbrev pub settled : List Bool → ℕ → OutC → Decoding
+settled bs n (accepted cs rest) = decoding (read (length bs - length rest)) cs
+settled bs n (rejected k u) = decoding (refuse k) (nil n)
+settled bs n (going st o u) = decoding (refuse 5) (nil n)
+
+unfoldable pub decodeOf : List ℕ → ℕ → List ℤ → Decoding
+decodeOf payload blocks old =
+    cond (leb blocks blockLimit && leb (length payload) payloadLimit)
+    (cond (eqb (length old) (64 * blocks)) (settled (bitsOf payload) (length old) (decode blocks (bitsOf payload))) (decoding (refuse 2) old))
+    (decoding (refuse 1) old)
+
+-- ---- encoding: done with bytes and bits, or no room with the needed bytes, or a refusal's number; and the buffer
+
+pub data EncodeAnswer : Type 0 where
+  wrote : ℕ → ℕ → EncodeAnswer
+  needs : ℕ → EncodeAnswer
+  declines : ℕ → EncodeAnswer
+
+pub record Encoding : Type 0 where
+  pub answer : EncodeAnswer
+  pub buffer : List ℕ
+
+abbrev pub toldEncoded : Encoded → EncodeAnswer
+toldEncoded (Written bytes bits) = wrote bytes bits
+toldEncoded (Room needed) = needs needed
+toldEncoded (NotWritten r) = declines (numberOf r)
+
+abbrev pub encoding : EncodeAnswer → List ℕ → Encoding
+encoding a b = record { answer = a; buffer = b }
+
+-- every coefficient is in range
+unfoldable pub inRange : List ℤ → Bool
+inRange [] = true
+inRange (c ∷ cs) = leb (natAbs c) most && inRange cs
+
+-- a code goes into a buffer that is long enough for it
+unfoldable pub written : List Bool → List ℕ → Encoding
+written code old =
+    cond (leb (bytesFor (length code)) (length old))
+    (encoding (wrote (bytesFor (length code)) (length code)) (stored old code))
+    (encoding (needs (bytesFor (length code))) old)
+
+unfoldable pub encodeOf : List ℤ → ℕ → List ℕ → Encoding
+encodeOf coeffs blocks old =
+    cond (leb blocks blockLimit)
+    (cond (eqb (length coeffs) (64 * blocks))
+    (cond (inRange coeffs) (written (encode blocks coeffs) old) (encoding (declines 4) old))
+    (encoding (declines 2) old))
+    (encoding (declines 1) old)

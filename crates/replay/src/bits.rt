@@ -6,12 +6,12 @@
 ghost use mathlib.Core.Path.{_≡_};
 ghost use Prim.Native.Nat.{min};
 ghost use Rattle.replay.specs.Answers.{AnswersRead, AnswersTest, AnswersPut};
-use crate::answer::Answer;
-use crate::text;
-use crate::text::Bytes;
-use crate::text::Number;
 use bitstream::Cursor;
 use bitstream::Read;
+use lines::answer::Answer;
+use lines::text;
+use lines::text::Bytes;
+use lines::text::Number;
 
 // The words of r and z.
 enum Case {

@@ -1,24 +1,20 @@
 // Answers cases from standard input, a line each, on standard output. What it writes is held to a stored file of answers.
 // A line is a letter and the words that the letter asks for, one space before each; a line that has not that form is answered `bad line`.
 // A coder's letters stand in a file of their own, and dispatch() has an arm for each.
-ghost use mathlib.Core.Path.{_≡_};
-ghost use lib.ListN.{length};
-use crate::answer::Answer;
 use libc::STDIN_FILENO;
 use libc::STDOUT_FILENO;
+use lines::answer;
+use lines::answer::Answer;
+use lines::text;
 
-mod answer; // what a case gives, and how that is written
 mod bits; // r, z, e, p: the bit layer
-mod text; // numbers and bytes as words
-
-// The most bytes that a line may have. Its HEX word then has at most 4,096 bytes, which io::buffer() holds.
-const LINE_LIMIT: usize = 8192;
+mod coefficients; // d, c: the coefficient coder
 
 // The most reads of standard input. Nothing says that an input ends, so they are counted down; at 65,536 bytes each no run uses them up.
 const READS: u32 = 1048576;
 
-// The answer to a line, by its letter. The bytes of a HEX word go to the start of payload.
-fn dispatch(line: &[u8], payload: &mut [u8]) -> Answer {
+// The answer to a line, by its letter. The bytes of a HEX word go to the start of payload, and coefficients to the start of list.
+fn dispatch(line: &[u8], payload: &mut [u8], list: &mut [i32]) -> Answer {
     if line.len() == 0 {
         return Answer::BadLine;
     }
@@ -28,6 +24,8 @@ fn dispatch(line: &[u8], payload: &mut [u8]) -> Answer {
         b'z' => bits::zero_prefix(line, payload),
         b'e' => bits::end_of_data(line, payload),
         b'p' => bits::put(line, payload),
+        b'd' => coefficients::decode(line, payload, list),
+        b'c' => coefficients::encode(line, payload, list),
         _ => Answer::BadLine,
     }
 }
@@ -43,18 +41,20 @@ fn write_line(out: &mut [u8], len: usize) {
 }
 
 // The answer to the first len bytes of line; a len above line's length says that the line was longer than the limit.
-fn answer_to(line: &[u8], len: usize, payload: &mut [u8]) -> Answer {
+fn answer_to(line: &[u8], len: usize, payload: &mut [u8], list: &mut [i32]) -> Answer {
     if line.len() < len {
         return Answer::BadLine;
     }
-    dispatch(text::first(line, len), payload)
+    dispatch(text::first(line, len), payload, list)
 }
 
+// Each case has a payload and a list of its own, as they are before a call. Every answer fits into io::large_buffer().
 fn answer_line(line: &[u8], len: usize) {
-    let mut payload = io::buffer();
+    let mut payload = coefficients::buffer();
+    let mut list = coefficients::list();
     let mut out = io::large_buffer();
-    let given = answer_to(line, len, &mut payload);
-    let written = answer::write(given, &payload, &mut out);
+    let given = answer_to(line, len, &mut payload, &mut list);
+    let written = answer::write(given, &payload, &list, &mut out);
     write_line(&mut out, written);
 }
 
@@ -97,15 +97,10 @@ fn read_lines(part: &mut [u8], line: &mut [u8]) -> usize {
     len
 }
 
-fn line_buffer() -> [u8; LINE_LIMIT]
-    ensures { λ r. ⌜ 8192 ≡ length r ⌝ }
-{
-    [0; LINE_LIMIT]
-}
-
+// A line has at most the 65,536 bytes of io::large_buffer(), in which a case of every form has room.
 fn main() {
     let mut part = io::large_buffer();
-    let mut line = line_buffer();
+    let mut line = io::large_buffer();
     let len = read_lines(&mut part, &mut line);
     if 0 < len {
         answer_line(&line, len);

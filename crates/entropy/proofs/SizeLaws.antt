@@ -18,7 +18,7 @@ use Rattle.codeword.proofs.BookLaws.{in-use-fit, firstBook-in-use, dcBook-in-us
 use Rattle.codeword.proofs.CodeLaws.{code-length}
 use Rattle.codeword.proofs.LengthLaws.{dc-le, level-le, run-le, first-le, first-zero}
 use Rattle.codeword.proofs.SignLaws.{natAbs-turned, symbol-le}
-use Rattle.entropy.specs.Elements.{Element, dcOf, runOf, levelOf, elementBits, elementLength, bits, size, acElements, dcElements, elementsOf, encode}
+use Rattle.entropy.specs.Elements.{Element, dcElement, runElement, levelElement, elementBits, elementLength, bits, size, acElements, dcElements, elementsOf, encode}
 use Rattle.entropy.specs.Decoding.{most}
 use Rattle.entropy.proofs.StepLaws.{symbol-small, diff-small}
 use Rattle.entropy.proofs.RoundTrip.{Small}
@@ -27,9 +27,9 @@ use Rattle.entropy.proofs.RoundTrip.{Small}
 
 -- an element in one of the codebooks in use, with a symbol below 2^32
 abbrev pub Proper : Element → Type 0
-Proper (dcOf b s) = InUse b × (s < 2 ^ 32)
-Proper (runOf b n) = InUse b × (n < 2 ^ 32)
-Proper (levelOf b s g) = InUse b × (s < 2 ^ 32)
+Proper (dcElement b s) = InUse b × (s < 2 ^ 32)
+Proper (runElement b n) = InUse b × (n < 2 ^ 32)
+Proper (levelElement b s g) = InUse b × (s < 2 ^ 32)
 
 abbrev pub AllProper : List Element → Type 0
 AllProper [] = Unit {0}
@@ -40,9 +40,9 @@ word-length b n u h = code-length b n (in-use-fit b u) h
 
 pub element-length : (e : Element) → Proper e → length (elementBits e) ≡ elementLength e
 unfolding elementBits elementLength
-element-length (dcOf b s) p = word-length b s (p .0) (p .1)
-element-length (runOf b n) p = word-length b n (p .0) (p .1)
-element-length (levelOf b s g) p = length-append (code b s) (g ∷ []) ∙ ap (λ (i : ℕ). i + 1) (word-length b s (p .0) (p .1))
+element-length (dcElement b s) p = word-length b s (p .0) (p .1)
+element-length (runElement b n) p = word-length b n (p .0) (p .1)
+element-length (levelElement b s g) p = length-append (code b s) (g ∷ []) ∙ ap (λ (i : ℕ). i + 1) (word-length b s (p .0) (p .1))
 
 pub bits-length : (es : List Element) → AllProper es → length (bits es) ≡ size es
 unfolding bits size

@@ -37,7 +37,7 @@ toldDecoded (Refused r) = refuse (numberOf r)
 abbrev pub decoding : DecodeAnswer → List ℤ → Decoding
 decoding a l = record { answer = a; list = l }
 
--- what a reading of the bits bs comes to, for a list of n coefficients: a refusal sets the whole list to zero
+-- what a reading of the bits bs comes to, for a list of n coefficients: a refusal sets the whole list to zero. (A reading to the end is never going on.)
 abbrev pub settled : List Bool → ℕ → OutC → Decoding
 settled bs n (accepted cs rest) = decoding (read (length bs - length rest)) cs
 settled bs n (rejected k u) = decoding (refuse k) (nil n)

@@ -13,13 +13,13 @@ use Rattle.codeword.specs.Books.{dcBook, runBook, levelBook, InUse}
 use Rattle.codeword.specs.Signs.{isNegative, symbolOf, turned}
 use Rattle.entropy.specs.Elements.{bits, acElements, dcElements}
 use Rattle.entropy.specs.Decoding.{most}
-use Rattle.entropy.specs.Answers.{inRange}
+use Rattle.entropy.specs.Answers.{blockLimit, inRange}
 use Rattle.entropy.specs.declared.encode.Dcs.{Dcs}
 use Rattle.entropy.specs.declared.encode.Acs.{Acs}
 
 -- the arguments that are not refused
 pub record Fine (blocks : ℕ) (cs : List ℤ) : Type 0 where
-  pub few : blocks ≤ 32
+  pub few : blocks ≤ blockLimit
   pub full : length cs ≡ 64 * blocks
   pub small : inRange cs ≡ true
 

@@ -6,6 +6,7 @@ ghost use lib.ListN.{length};
 ghost use Rattle.bitstream.specs.Bits.{bitsOf};
 ghost use Rattle.bitstream.specs.Told.{payloadLimit};
 ghost use Rattle.entropy.specs.Decoding.{most, nil};
+ghost use Rattle.entropy.specs.Answers.{blockLimit};
 ghost use Rattle.entropy.specs.Steps.{Placed, RunDue, dcStepOf, firstDue, dcDue, DcStepped, RunStepped, levelDue, signDue, LevelStepped, PairStepped};
 ghost use Rattle.entropy.specs.Steps.{DcsStand, AcsStand, behindDcs, DcsRead, reachedSays, answerOf};
 use crate::values;
@@ -218,7 +219,7 @@ fn pair_step(payload: &[u8], total: usize, s: Acs) -> LevelStep
 
 // The runs and levels from the bit `at` on, behind the DCs.
 pub fn read_acs(payload: &[u8], blocks: usize, at: usize, out: &mut [i32]) -> Reached
-    requires { ⌜ (length (now payload) ≤ payloadLimit) × (blocks ≤ 32) × AcsStand (bitsOf (now payload)) blocks (behindDcs blocks at) (now out) ⌝ }
+    requires { ⌜ (length (now payload) ≤ payloadLimit) × (blocks ≤ blockLimit) × AcsStand (bitsOf (now payload)) blocks (behindDcs blocks at) (now out) ⌝ }
     ensures { λ r. ⌜ reachedSays blocks r (now (out .exit)) ≡ answerOf (bitsOf (now (payload .entry))) blocks ⌝ }
 {
     let total = 64 * blocks;

@@ -6,7 +6,7 @@ ghost use Rattle.bitstream.specs.Bits.{bitsOf};
 ghost use Rattle.bitstream.specs.Told.{payloadLimit};
 ghost use Rattle.entropy.specs.Decoding.{nil};
 ghost use Rattle.entropy.specs.Steps.{reachedSays, answerOf};
-ghost use Rattle.entropy.specs.Answers.{toldDecoded, decoding, decodeOf, toldEncoded, encoding, encodeOf};
+ghost use Rattle.entropy.specs.Answers.{blockLimit, toldDecoded, decoding, decodeOf, toldEncoded, encoding, encodeOf};
 use crate::decode::Reached;
 use bitstream::Refusal;
 
@@ -57,7 +57,7 @@ pub fn decode_scanned_coefficients(payload: &[u8], blocks: usize, out: &mut [i32
 
 // out is all zero.
 fn read_all(payload: &[u8], blocks: usize, out: &mut [i32]) -> Reached
-    requires { ⌜ (length (now payload) ≤ payloadLimit) × (blocks ≤ 32) × (now out ≡ nil (64 * blocks)) ⌝ }
+    requires { ⌜ (length (now payload) ≤ payloadLimit) × (blocks ≤ blockLimit) × (now out ≡ nil (64 * blocks)) ⌝ }
     ensures { λ r. ⌜ reachedSays blocks r (now (out .exit)) ≡ answerOf (bitsOf (now (payload .entry))) blocks ⌝ }
 {
     if blocks == 0 {

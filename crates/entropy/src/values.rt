@@ -2,6 +2,7 @@
 ghost use mathlib.Core.Path.{_≡_};
 ghost use Prim.Native.Nat.{_≤_};
 ghost use lib.IntN.{natAbs};
+ghost use Rattle.entropy.specs.Decoding.{most};
 ghost use Rattle.entropy.specs.Values.{firstDc, nextDc, levelOf};
 use crate::range::MOST;
 use codeword::signs;
@@ -33,7 +34,7 @@ pub fn first_dc(s: u32) -> Dc
 
 // The DC after dc, whose difference has symbol s; it is negated where the last difference was negative. The sum is over whole numbers.
 pub fn next_dc(dc: i32, last_negative: bool, s: u32) -> Dc
-    requires { ⌜ natAbs dc ≤ 536870911 ⌝ }
+    requires { ⌜ natAbs dc ≤ most ⌝ }
     ensures { λ r. ⌜ r ≡ nextDc dc «last_negative» s ⌝ }
 {
     let d = signs::inv_signed_mapping(s);

@@ -1,2 +1,1 @@
 pub mod DigitLaws
-pub mod SignLaws

@@ -1,11 +1,12 @@
 // Entries of a list as words: `P:V` is a place and the value there, which is decimal, with `-` before it below zero.
 ghost use mathlib.Core.Path.{_≡_};
 ghost use Prim.Native.Nat.{_≤_};
-ghost use lib.IntN.{pos, negℤ, natAbs};
+ghost use lib.IntN.{pos, negℤ};
 ghost use lib.ListN.{length, take};
 ghost use Rattle.lines.specs.Words.{Gives, EntryWithin, ValueWithin};
 use crate::text;
 use crate::text::Number;
+use codeword::signs;
 
 // A value and the position behind it.
 pub enum Value {
@@ -97,24 +98,15 @@ pub fn read_entry(line: &[u8], at: usize) -> Entry
     Entry::Is { place, value, next }
 }
 
-fn magnitude(n: i32) -> u64
-    ensures { λ r. ⌜ r ≡ natAbs n ⌝ }
-{
-    if n < 0 {
-        return (-1 - n) as u64 + 1;
-    }
-    n as u64
-}
-
 fn put_value(out: &mut [u8], at: usize, n: i32) -> usize
     requires { ⌜ at ≤ length (now out) ⌝ }
     ensures { λ r. ⌜ r ≤ length (now (out .exit)) ⌝ }
 {
     if n < 0 {
         let next = text::put_byte(out, at, b'-');
-        return text::put_decimal(out, next, magnitude(n));
+        return text::put_decimal(out, next, signs::magnitude(n) as u64);
     }
-    text::put_decimal(out, at, magnitude(n))
+    text::put_decimal(out, at, signs::magnitude(n) as u64)
 }
 
 // A space and the entry; nothing where the value is 0.

@@ -7,7 +7,7 @@ use mir.Syntax.{w32}
 use mir.Val.{toZ}
 use mir.Facts.{toZ-ofZ, toZ-pos}
 use borrow.Author.Needs.{needs}
-use Rattle.lines.proofs.SignLaws.{minus-one-sub-pos, negsuc-neg}
+use Rattle.common.proofs.Integers.{minus-one-sub-pos, negsuc-neg}
 use Rattle.lines.proofs.entries.below.Statement.{statement}
 use Rattle.lines.proofs.entries.below.Tie as tie
 

@@ -170,7 +170,7 @@ fn sign_step(payload: &[u8], s: Acs, symbol: u32, at: usize) -> LevelStep
 {
     let read = Cursor { at }.read_bit(payload);
     match read {
-        Read::No(why) => LevelStep::No(why),
+        Read::No(short) => LevelStep::No(short),
         Read::Value { value, next } => {
             let level = values::level_of(value == 1, symbol);
             match level {
@@ -178,11 +178,12 @@ fn sign_step(payload: &[u8], s: Acs, symbol: u32, at: usize) -> LevelStep
                 Level::Is(v) => {
                     let runs = s.runs;
                     let levels = books::level_codebook(symbol);
+                    let place = s.place + 1;
                     LevelStep::To(
                         v,
                         Acs {
                             at: next.at,
-                            place: s.place + 1,
+                            place,
                             runs,
                             levels,
                         },

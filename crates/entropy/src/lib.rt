@@ -88,8 +88,9 @@ pub fn encode_scanned_coefficients(coeffs: &[i32], blocks: usize, out: &mut [u8]
     if out.len() < needed {
         return Encoded::Room { needed };
     }
+    let written = encode::write(coeffs, blocks, out);
     Encoded::Done {
         bytes: needed,
-        bits: encode::write(coeffs, blocks, out),
+        bits: written,
     }
 }

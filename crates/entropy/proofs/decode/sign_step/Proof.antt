@@ -36,8 +36,8 @@ enum-known-level c = search needs
 level-codebook-requires : tie.Need-level-codebook-requires
 level-codebook-requires c κs = search needs
 
-add-t18 : tie.Need-add-t18
-add-t18 c = search needs
+add-place : tie.Need-add-place
+add-place c = search needs
 
 returns : tie.Need-returns
 returns c =
@@ -87,7 +87,7 @@ sign-step-spec =
     enum-told
     enum-known-level
     level-codebook-requires
-    add-t18
+    add-place
     returns
     returns-2
     returns-3)

@@ -16,6 +16,7 @@ use Rattle.bitstream.specs.Bits.{field, zeros, ended}
 use Rattle.bitstream.proofs.FieldLaws.{length-field}
 use Rattle.bitstream.proofs.PlaceLaws.{ended-append, ended-zeros, ended-one}
 use Rattle.codeword.specs.Codewords.{log2, expGolomb, combo, code, expLength, codeLength, limit, width, base}
+use Rattle.codeword.specs.Words.{InUse}
 use Rattle.codeword.specs.declared.Codebook.{Codebook}
 use Rattle.codeword.specs.declared.Codebook.the-variants.{ExpGolomb, RiceExp}
 use Rattle.codeword.proofs.ExpLaws.{exp-form, exp-exists, exp-length}
@@ -54,6 +55,10 @@ module _ (q r e z : ℕ) where
 abbrev pub Fit : Codebook → Type 0
 Fit (ExpGolomb k) = k ≤ 32
 Fit (RiceExp q r e) = (q ≤ 31) × (r ≤ 32) × (e ≤ 32)
+
+pub in-use-fit : (cb : Codebook) → InUse cb → Fit cb
+in-use-fit (ExpGolomb k) u = omega arith
+in-use-fit (RiceExp q r e) u = omega arith
 
 -- n is spelled with z zeros and the suffix v
 pub record Spelled (cb : Codebook) (n z v : ℕ) : Type 0 where

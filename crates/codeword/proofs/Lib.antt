@@ -2,10 +2,5 @@ pub mod ExpLaws
 pub mod CodeLaws
 pub mod ReadCodeLaws
 pub mod AnswerLaws
-pub mod BookLaws
-pub mod BookExamples
-pub mod LengthLaws
-pub mod SignLaws
-pub mod SignExamples
 pub mod WordLaws
 pub mod Unique

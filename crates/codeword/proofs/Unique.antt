@@ -1,4 +1,4 @@
--- Any two outcomes that a promise allows are equal: a theorem for each public function. Those whose promise is `r ≡ X` share one.
+-- Any two outcomes that a promise allows are equal: a theorem for each public function.
 -- Assumes nothing.
 use mathlib.Core.Path.{_≡_, sym, ap, ap₂, _∙_}
 use mathlib.Core.Bool.{Bool}
@@ -15,10 +15,6 @@ use Rattle.bitstream.proofs.Unique.{told-once}
 use Rattle.codeword.specs.Codewords.{readCode}
 use Rattle.codeword.specs.Words.{Spells, OneMore}
 use Rattle.codeword.specs.declared.Codebook.{Codebook}
-
--- the codebooks and the signs
-pub equal-unique {ℓ} : {A : Type ℓ} (x : A) {r r′ : A} → r ≡ x → r′ ≡ x → r ≡ r′
-equal-unique x e f = e ∙ sym f
 
 -- Codebook::read
 pub read-unique : (cb : Codebook) (s : List ℕ) (p : ℕ) (r r′ : Read) → told r ≡ outcomeAt (readCode cb) s p → told r′ ≡ outcomeAt (readCode cb) s p → r ≡ r′

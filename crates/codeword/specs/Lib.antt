@@ -1,4 +1,2 @@
 pub mod Codewords
-pub mod Books
-pub mod Signs
 pub mod Words

@@ -4,6 +4,13 @@ use mathlib.Core.Path.{_≡_}
 use mathlib.Core.Bool.{Bool}
 use mathlib.Core.List.{List, [], _∷_, _++_}
 use Rattle.bitstream.specs.Bits.{field}
+use Rattle.codeword.specs.declared.Codebook.{Codebook}
+use Rattle.codeword.specs.declared.Codebook.the-variants.{ExpGolomb, RiceExp}
+
+-- what the ten codebooks in use have in common: their parameters are small
+abbrev pub InUse : Codebook → Type 0
+InUse (ExpGolomb k) = k ≤ 5
+InUse (RiceExp q r e) = (q ≤ 2) × (r ≤ 2) × (e ≤ 3)
 
 -- value has its 1 within 33 bits, and all in front of it are zeros
 pub record Spells (bits : List Bool) (len value : ℕ) : Type 0 where

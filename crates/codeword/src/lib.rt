@@ -1,15 +1,13 @@
-// Codewords: document 01, sections Codewords and Choice of codebook; the first half of entropy.rs.
+// Codewords: document 01, section Codewords; the first half of entropy.rs.
 ghost use mathlib.Core.Path.{_≡_};
 ghost use Prim.Native.Nat.{_+_, _≤_, _<_};
 ghost use Rattle.bitstream.specs.Told.{told, outcomeAt};
 ghost use Rattle.codeword.specs.Codewords.{code, readCode};
-ghost use Rattle.codeword.specs.Books.{InUse};
+ghost use Rattle.codeword.specs.Words.{InUse};
 ghost use Rattle.codeword.specs.Words.{Spells};
 use bitstream::Cursor;
 use bitstream::Read;
 
-pub mod books; // which codebook comes next
-pub mod signs; // S(n), and the negation of a DC difference
 mod read; // a codeword at a cursor
 pub mod words; // a codeword as one field
 pub mod put; // a codeword into a buffer

@@ -2,3 +2,4 @@ pub mod Choices
 pub mod Fills
 pub mod Integers
 pub mod Numbers
+pub mod Unique

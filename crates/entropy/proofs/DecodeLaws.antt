@@ -8,8 +8,9 @@ use lib.ListN.{length}
 use borrow.Author.Tests.{le-leb, lt-leb, eq-eqb, ne-eqb}
 use Rattle.bitstream.specs.Bits.{bitsOf}
 use Rattle.bitstream.specs.Told.{payloadLimit}
-use Rattle.entropy.specs.Decoding.{decode}
-use Rattle.entropy.specs.Answers.{blockLimit, refuse, decoding, settled, decodeOf}
+use Rattle.elements.specs.Decoding.{decode}
+use Rattle.elements.specs.Limits.{blockLimit}
+use Rattle.elements.specs.Answers.{refuse, decoding, settled, decodeOf}
 
 module _ (p : List ℕ) (blocks : ℕ) (old : List ℤ) where
   pub decodeOf-many : blockLimit < blocks → decodeOf p blocks old ≡ decoding (refuse 1) old

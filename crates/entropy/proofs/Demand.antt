@@ -17,13 +17,15 @@ use Rattle.bitstream.specs.Told.{payloadLimit}
 use Rattle.bitstream.proofs.BitsLaws.{bits-append, length-bits}
 use Rattle.bitstream.proofs.BytesLaws.{bits-pack, length-pack, stored-payload}
 use Rattle.bitstream.proofs.PlaceLaws.{ended-append, ended-zeros}
-use Rattle.entropy.specs.Elements.{size, elementsOf, encode}
-use Rattle.entropy.specs.Decoding.{most, decode, OutC}
-use Rattle.entropy.specs.Answers.{blockLimit, Decoding, decoding, read, settled, decodeOf, Encoding, encoding, wrote, needs, encodeOf}
-use Rattle.entropy.proofs.RoundTrip.{Small, decode-encode}
-use Rattle.entropy.proofs.SizeLaws.{Below, encode-length, size-le}
-use Rattle.entropy.specs.Writing.{Fine}
-use Rattle.entropy.proofs.RangeLaws.{inRange-small}
+use Rattle.elements.specs.Elements.{size, elementsOf, encode}
+use Rattle.elements.specs.Limits.{most}
+use Rattle.elements.specs.Decoding.{decode, OutC}
+use Rattle.elements.specs.Limits.{blockLimit}
+use Rattle.elements.specs.Answers.{Decoding, decoding, read, settled, decodeOf, Encoding, encoding, wrote, needs, encodeOf}
+use Rattle.elements.proofs.RoundTrip.{Small, decode-encode}
+use Rattle.elements.proofs.SizeLaws.{Below, encode-length, size-le}
+use Rattle.elements.specs.Limits.{Fine}
+use Rattle.elements.proofs.RangeLaws.{inRange-small}
 use Rattle.entropy.proofs.DecodeLaws.{decodeOf-fits}
 use Rattle.entropy.proofs.EncodeLaws.{encode-room, encode-done}
 

@@ -8,14 +8,10 @@ use lib.IntN.{ℤ}
 use lib.ListN.{length}
 use borrow.Author.Tests.{le-leb, lt-leb, eq-eqb, ne-eqb}
 use Rattle.bitstream.specs.Bytes.{bytesFor, stored}
-use Rattle.entropy.specs.Elements.{bits, elementsOf, encode}
-use Rattle.entropy.specs.Answers.{blockLimit, inRange, encoding, wrote, needs, declines, written, encodeOf}
-use Rattle.entropy.specs.Writing.{Fine}
-
--- no blocks have no code
-pub encode-none : {b : ℕ} (cs : List ℤ) → b ≡ 0 → encode b cs ≡ []
-unfolding encode elementsOf bits
-encode-none cs e = rw e
+use Rattle.elements.specs.Elements.{bits, elementsOf, encode}
+use Rattle.elements.specs.Limits.{blockLimit, inRange}
+use Rattle.elements.specs.Answers.{encoding, wrote, needs, declines, written, encodeOf}
+use Rattle.elements.specs.Limits.{Fine}
 
 -- ---- refusals
 

@@ -1,14 +1,4 @@
-pub mod StepLaws
-pub mod RoundTrip
-pub mod SizeLaws
-pub mod RangeLaws
-pub mod ValueLaws
-pub mod ValueExamples
-pub mod StepAnswers
-pub mod Standing
 pub mod DecodeLaws
-pub mod DoingLaws
-pub mod WritingLaws
 pub mod EncodeLaws
 pub mod Demand
 pub mod Unique

@@ -5,7 +5,8 @@ use mathlib.Core.List.{List}
 use Prim.Native.Nat.{ℕ}
 use lib.IntN.{ℤ}
 use Rattle.bitstream.proofs.Unique.{refusalOf, refusalOf-number}
-use Rattle.entropy.specs.Answers.{DecodeAnswer, read, refuse, Decoding, toldDecoded, decoding, decodeOf, EncodeAnswer, wrote, needs, declines, Encoding, toldEncoded, encoding, encodeOf}
+use Rattle.elements.specs.Answers.{DecodeAnswer, read, refuse, Decoding, decoding, decodeOf, EncodeAnswer, wrote, needs, declines, Encoding, encoding, encodeOf}
+use Rattle.entropy.specs.Told.{toldDecoded, toldEncoded}
 use Rattle.entropy.specs.declared.Decoded.{Decoded}
 use Rattle.entropy.specs.declared.Decoded.the-variants.{Done, Refused}
 use Rattle.entropy.specs.declared.Encoded.{Encoded}

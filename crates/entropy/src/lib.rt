@@ -1,20 +1,11 @@
 // The scanned coefficient coder: document 01; the second half of entropy.rs.
 ghost use mathlib.Core.Path.{_≡_};
-ghost use Prim.Native.Nat.{_*_, _≤_};
-ghost use lib.ListN.{length};
-ghost use Rattle.bitstream.specs.Bits.{bitsOf};
-ghost use Rattle.bitstream.specs.Told.{payloadLimit};
-ghost use Rattle.entropy.specs.Decoding.{nil};
-ghost use Rattle.entropy.specs.Steps.{reachedSays, answerOf};
-ghost use Rattle.entropy.specs.Answers.{blockLimit, toldDecoded, decoding, decodeOf, toldEncoded, encoding, encodeOf};
-use crate::decode::Reached;
+ghost use Rattle.entropy.specs.Told.{toldDecoded, toldEncoded};
+ghost use Rattle.elements.specs.Answers.{decoding, decodeOf, encoding, encodeOf};
 use bitstream::Refusal;
-
-mod decode; // an element at a time
-mod encode; // count, then write
-mod range; // whether every coefficient is in range
-mod values; // DC sums and levels
-mod zero; // a list of zeros
+use elements::range;
+use elements::zero;
+use reading::Reached;
 
 // The most blocks per call.
 pub const BLOCK_LIMIT: usize = 32;
@@ -45,28 +36,13 @@ pub fn decode_scanned_coefficients(payload: &[u8], blocks: usize, out: &mut [i32
         return Decoded::Refused(Refusal::Length);
     }
     zero::zero(out);
-    let reached = read_all(payload, blocks, out);
+    let reached = reading::read_all(payload, blocks, out);
     match reached {
         Reached::At(bits) => Decoded::Done { bits },
         Reached::No(why) => {
             zero::zero(out);
             Decoded::Refused(why)
         }
-    }
-}
-
-// out is all zero.
-fn read_all(payload: &[u8], blocks: usize, out: &mut [i32]) -> Reached
-    requires { ⌜ (length (now payload) ≤ payloadLimit) × (blocks ≤ blockLimit) × (now out ≡ nil (64 * blocks)) ⌝ }
-    ensures { λ r. ⌜ reachedSays blocks r (now (out .exit)) ≡ answerOf (bitsOf (now (payload .entry))) blocks ⌝ }
-{
-    if blocks == 0 {
-        return Reached::At(0);
-    }
-    let dcs = decode::read_dcs(payload, blocks, out);
-    match dcs {
-        Reached::No(why) => Reached::No(why),
-        Reached::At(at) => decode::read_acs(payload, blocks, at, out),
     }
 }
 
@@ -83,12 +59,12 @@ pub fn encode_scanned_coefficients(coeffs: &[i32], blocks: usize, out: &mut [u8]
     if range::out_of_range(coeffs) {
         return Encoded::Refused(Refusal::Value);
     }
-    let bits = encode::count(coeffs, blocks);
+    let bits = writing::count(coeffs, blocks);
     let needed = (bits + 7) / 8;
     if out.len() < needed {
         return Encoded::Room { needed };
     }
-    let written = encode::write(coeffs, blocks, out);
+    let written = writing::write(coeffs, blocks, out);
     Encoded::Done {
         bytes: needed,
         bits: written,

@@ -6,7 +6,6 @@ ghost use lib.ListN.{length, take};
 ghost use Rattle.lines.specs.Words.{Gives, EntryWithin, ValueWithin};
 use crate::text;
 use crate::text::Number;
-use codeword::signs;
 
 // A value and the position behind it.
 pub enum Value {

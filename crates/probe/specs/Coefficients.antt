@@ -1,6 +1,6 @@
 -- What the functions over the coefficient coder give: a result and the numbers that come back.
 use Prim.Native.Nat.{ℕ}
-use Rattle.entropy.specs.Answers.{DecodeAnswer, read, refuse, EncodeAnswer, wrote, needs, declines}
+use Rattle.elements.specs.Answers.{DecodeAnswer, read, refuse, EncodeAnswer, wrote, needs, declines}
 
 -- the result and the bits read of a decoding
 abbrev pub decodeResult : DecodeAnswer → ℕ

@@ -1,6 +1,7 @@
 // The scanned coefficient coder.
 ghost use mathlib.Core.Path.{_≡_};
-ghost use Rattle.entropy.specs.Answers.{decodeOf, encodeOf, toldDecoded, toldEncoded};
+ghost use Rattle.elements.specs.Answers.{decodeOf, encodeOf};
+ghost use Rattle.entropy.specs.Told.{toldDecoded, toldEncoded};
 ghost use Rattle.probe.specs.Coefficients.{decodeResult, decodeBits, encodeResult, encodeBytes, encodeBits};
 use entropy::Decoded;
 use entropy::Encoded;

@@ -6,13 +6,14 @@ use Rattle.bitstream.specs.Bits.{field, number, bitsOf, ended}
 use Rattle.bitstream.specs.Bytes.{bytes, pack, stored}
 use Rattle.bitstream.specs.Reading.{readField, readBits, zeroPrefix}
 use Rattle.bitstream.specs.Machine.{elements, from}
-use Rattle.codeword.specs.Books.{dcBook, runBook, levelBook}
+use Rattle.books.specs.Books.{dcBook, runBook, levelBook}
 use Rattle.codeword.specs.Codewords.{log2, expGolomb, combo, code, width, base, symbol, suffix, readSuffix, readCode}
-use Rattle.codeword.specs.Signs.{symbolOf, integerOf, turned}
-use Rattle.entropy.specs.Elements.{elementBits, acElements, dcElements, elementsOf, encode}
-use Rattle.entropy.specs.Elements.{bits as codeBits}
-use Rattle.entropy.specs.Decoding.{dcTo, runTo, levelTo, step, decode}
-use Rattle.entropy.specs.Answers.{decodeOf, inRange, written, encodeOf}
+use Rattle.signs.specs.Signs.{symbolOf, integerOf, turned}
+use Rattle.elements.specs.Elements.{elementBits, acElements, dcElements, elementsOf, encode}
+use Rattle.elements.specs.Elements.{bits as codeBits}
+use Rattle.elements.specs.Decoding.{dcTo, runTo, levelTo, step, decode}
+use Rattle.elements.specs.Answers.{decodeOf, written, encodeOf}
+use Rattle.elements.specs.Limits.{inRange}
 use Rattle.rows.specs.Rows.{rows, Each}
 
 pub table : Each rows

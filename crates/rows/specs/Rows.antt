@@ -4,8 +4,8 @@ use mathlib.Core.Path.{_≡_}
 use mathlib.Core.List.{List, [], _∷_, _++_}
 use lib.IntN.{ℤ, pos, negsuc}
 use lib.ListN.{length, replicate}
-use Rattle.entropy.specs.Decoding.{nil}
-use Rattle.entropy.specs.Answers.{decoding, read, decodeOf, encoding, wrote, needs, encodeOf}
+use Rattle.elements.specs.Decoding.{nil}
+use Rattle.elements.specs.Answers.{decoding, read, decodeOf, encoding, wrote, needs, encodeOf}
 
 -- what is coded: the coefficients of some blocks
 pub data Input : Type 0 where

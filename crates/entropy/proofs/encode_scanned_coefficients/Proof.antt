@@ -3,7 +3,7 @@
 use mathlib.Core.Path.{sym, _∙_}
 use native.Mathlib.Omega.{arith}
 use borrow.Author.Needs.{needs}
-use Rattle.entropy.specs.Writing.{Fine}
+use Rattle.elements.specs.Limits.{Fine}
 use Rattle.entropy.proofs.EncodeLaws.{encode-limit, encode-not-full, encode-out, encode-room, encode-done, range-true, range-false}
 use Rattle.entropy.proofs.encode_scanned_coefficients.Statement.{statement}
 use Rattle.entropy.proofs.encode_scanned_coefficients.Tie as tie

@@ -1,7 +1,7 @@
 -- `probe::coefficients::encode_numbers` meets its contract.
 -- Assumes nothing.
 use mathlib.Core.Path.{sym, ap, _∙_}
-use Rattle.entropy.specs.Answers.{toldEncoded}
+use Rattle.entropy.specs.Told.{toldEncoded}
 use Rattle.entropy.specs.declared.Encoded.{Encoded}
 use Rattle.probe.specs.Coefficients.{encodeResult, encodeBytes, encodeBits}
 use borrow.Author.Needs.{needs}

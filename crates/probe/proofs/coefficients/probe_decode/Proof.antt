@@ -1,7 +1,7 @@
 -- `probe::coefficients::probe_decode` meets its contract.
 -- Assumes nothing.
 use mathlib.Core.Path.{ap, _∙_}
-use Rattle.entropy.specs.Answers.{Decoding}
+use Rattle.elements.specs.Answers.{Decoding}
 use Rattle.probe.specs.Coefficients.{decodeResult, decodeBits}
 use borrow.Author.Needs.{needs}
 use Rattle.probe.proofs.coefficients.probe_decode.Statement.{statement}

@@ -1,7 +1,7 @@
 -- `probe::coefficients::probe_encode` meets its contract.
 -- Assumes nothing.
 use mathlib.Core.Path.{ap, _∙_}
-use Rattle.entropy.specs.Answers.{Encoding}
+use Rattle.elements.specs.Answers.{Encoding}
 use Rattle.probe.specs.Coefficients.{encodeResult, encodeBytes, encodeBits}
 use borrow.Author.Needs.{needs}
 use Rattle.probe.proofs.coefficients.probe_encode.Statement.{statement}

@@ -1,0 +1,6 @@
+pub mod StepLaws
+pub mod RoundTrip
+pub mod SizeLaws
+pub mod RangeLaws
+pub mod ValueLaws
+pub mod ValueExamples

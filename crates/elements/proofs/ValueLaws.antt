@@ -1,0 +1,81 @@
+-- The laws of DCs and levels: in range or out, and what their symbols give back.
+-- Assumes nothing.
+use mathlib.Core.Path.{_≡_, refl, ap, _∙_}
+use mathlib.Core.Bool.{Bool, true, false, cond}
+use Prim.Native.Nat.{ℕ, suc, _-_, _≤_, _<_}
+use native.Mathlib.Omega.{arith}
+use lib.Dec.{leb, ltb}
+use lib.IntN.{ℤ, pos, negsuc, natAbs, _+ℤ_, _-ℤ_}
+use borrow.Author.Tests.{le-leb, lt-leb, leb-true, lt-ltb, le-ltb, ltb-true}
+use Rattle.common.proofs.Integers.{add-back}
+use Rattle.signs.specs.Signs.{isNegative, symbolOf, integerOf, turned}
+use Rattle.signs.proofs.SignLaws.{integer-symbol, turned-turned}
+use Rattle.elements.specs.Limits.{most}
+use Rattle.elements.specs.Decoding.{signed}
+use Rattle.elements.specs.Values.{dcOf, firstDc, nextDc, levelOf}
+use Rattle.elements.specs.declared.values.Dc.the-variants.{Is, Out}
+use Rattle.elements.specs.declared.values.Level.the-variants.{Is as LevelIs, Out as LevelOut}
+
+-- ---- a DC
+pub dc-is : (z : ℤ) (neg : Bool) (m : ℕ) → natAbs z ≤ most → dcOf z neg m ≡ Is z neg m
+unfolding dcOf
+dc-is z neg m h = simp (le-leb (natAbs z) most h)
+
+pub dc-out : (z : ℤ) (neg : Bool) (m : ℕ) → most < natAbs z → dcOf z neg m ≡ Out
+unfolding dcOf
+dc-out z neg m h = simp (lt-leb (natAbs z) most h)
+
+pub dc-range : (z : ℤ) (neg : Bool) (m : ℕ) {x : ℤ} {b : Bool} {n : ℕ} → dcOf z neg m ≡ Is x b n → natAbs x ≤ most
+unfolding dcOf
+dc-range z neg m {x} {b} {n} e = by (leb (natAbs z) most) refl e
+  where
+    by : (t : Bool) → leb (natAbs z) most ≡ t → cond t (Is z neg m) Out ≡ Is x b n → natAbs x ≤ most
+    by true t q = let same : z ≡ x = cc in rw (← same) (leb-true (natAbs z) most t)
+    by false t q = let clash : _≡_ {A = ℕ} 0 1 = cc in omega arith
+
+pub first-range : (s : ℕ) {x : ℤ} {b : Bool} {n : ℕ} → firstDc s ≡ Is x b n → natAbs x ≤ most
+unfolding firstDc
+first-range s e = dc-range (integerOf s) false 3 e
+
+pub next-range : (dc : ℤ) (neg : Bool) (s : ℕ) {x : ℤ} {b : Bool} {n : ℕ} → nextDc dc neg s ≡ Is x b n → natAbs x ≤ most
+unfolding nextDc
+next-range dc neg s e = let d = turned neg (integerOf s) in dc-range (dc +ℤ d) (isNegative d) (natAbs d) e
+
+-- the encoder's symbols, read
+pub first-symbol : (z : ℤ) → natAbs z ≤ most → firstDc (symbolOf z) ≡ Is z false 3
+unfolding firstDc
+first-symbol z h = rw (integer-symbol z) (dc-is z false 3 h)
+
+pub next-symbol : (dc : ℤ) (neg : Bool) (z : ℤ) → natAbs z ≤ most
+    → nextDc dc neg (symbolOf (turned neg (z -ℤ dc))) ≡ Is z (isNegative (z -ℤ dc)) (natAbs (z -ℤ dc))
+unfolding nextDc
+next-symbol dc neg z h =
+    rw (integer-symbol (turned neg (z -ℤ dc)), turned-turned neg (z -ℤ dc), add-back dc z) (dc-is z (isNegative (z -ℤ dc)) (natAbs (z -ℤ dc)) h)
+
+-- ---- a level
+pub level-is : (neg : Bool) (s : ℕ) → s < most → levelOf neg s ≡ LevelIs (signed neg s)
+unfolding levelOf
+level-is neg s h = simp (lt-ltb s most h)
+
+pub level-out : (neg : Bool) (s : ℕ) → most ≤ s → levelOf neg s ≡ LevelOut
+unfolding levelOf
+level-out neg s h = simp (le-ltb s most h)
+
+pub natAbs-signed : (neg : Bool) (s : ℕ) → natAbs (signed neg s) ≡ suc s
+natAbs-signed true s = refl
+natAbs-signed false s = refl
+
+pub signed-natAbs : (z : ℤ) → 0 < natAbs z → signed (isNegative z) (natAbs z - 1) ≡ z
+signed-natAbs (pos n) h = ap pos (omega arith)
+signed-natAbs (negsuc n) h = ap negsuc (omega arith)
+
+pub level-range : (neg : Bool) (s : ℕ) {x : ℤ} → levelOf neg s ≡ LevelIs x → natAbs x ≤ most
+unfolding levelOf
+level-range neg s {x} e = by (ltb s most) refl e
+  where
+    by : (t : Bool) → ltb s most ≡ t → cond t (LevelIs (signed neg s)) LevelOut ≡ LevelIs x → natAbs x ≤ most
+    by true t q = let same : signed neg s ≡ x = cc in rw (← same) (omega (arith, natAbs-signed neg s, ltb-true s most t))
+    by false t q = let clash : _≡_ {A = ℕ} 0 1 = cc in omega arith
+
+pub level-back : (z : ℤ) → 0 < natAbs z → natAbs z ≤ most → levelOf (isNegative z) (natAbs z - 1) ≡ LevelIs z
+level-back z h k = level-is (isNegative z) (natAbs z - 1) (omega arith) ∙ ap LevelIs (signed-natAbs z h)

@@ -1,0 +1,21 @@
+// The range of a coefficient.
+ghost use mathlib.Core.Path.{_≡_};
+ghost use mathlib.Core.Bool.{not};
+ghost use Rattle.elements.specs.Limits.{inRange};
+
+// The largest magnitude of a coefficient.
+pub const MOST: u32 = 536870911;
+
+// Whether any coefficient is out of range (refusal 4).
+pub fn out_of_range(coeffs: &[i32]) -> bool
+    ensures { λ r. ⌜ r ≡ not (inRange (now (coeffs .entry))) ⌝ }
+{
+    let mut i = 0;
+    while i < coeffs.len() {
+        if MOST < signs::magnitude(coeffs[i]) {
+            return true;
+        }
+        i += 1;
+    }
+    false
+}

@@ -1,0 +1,286 @@
+-- One step of the decoder, by what was read at it: first of a list of bits, then of a payload, as the code answers. A function's proof cites
+-- the laws of the payload alone.
+-- Assumes nothing.
+use Prim.Native.Nat.{ℕ, _+_, _-_, _≤_, _<_}
+use native.Mathlib.Omega.{arith}
+use mathlib.Core.Path.{_≡_, refl, sym, ap, ap₂, _∙_}
+use mathlib.Core.Bool.{Bool, true, false, cond, _||_}
+use mathlib.Core.List.{List, [], _∷_}
+use lib.Dec.{leb, ltb, eqb}
+use lib.IntN.{ℤ, natAbs, _+ℤ_}
+use lib.ListN.{length, drop, length-drop}
+use borrow.Author.Tests.{lt-ltb, le-ltb, ne-eqb}
+use Rattle.common.proofs.Choices.{cond-yes, cond-no}
+use Rattle.bitstream.specs.Bits.{val, number, bitsOf, ended}
+use Rattle.bitstream.specs.Reading.{Parsed, got, refused, Reader, readField, readBits}
+use Rattle.bitstream.specs.Machine.{moved, refuses}
+use Rattle.bitstream.specs.Told.{payloadLimit, numberOf, told, outcomeAt}
+use Rattle.bitstream.specs.declared.Cursor.{Cursor}
+use Rattle.bitstream.specs.declared.Refusal.{Refusal}
+use Rattle.bitstream.specs.declared.Refusal.the-variants.{Overrun, Range}
+use Rattle.bitstream.specs.declared.Read.{Read}
+use Rattle.bitstream.specs.declared.Read.the-variants.{Value, No as Unread}
+use Rattle.bitstream.proofs.ReadLaws.{Local, readBits-field, readField-all, readBits-local, told-got, told-refused}
+use Rattle.codeword.specs.Codewords.{readCode}
+use Rattle.books.specs.Books.{firstBook, dcBook, runBook, levelBook}
+use Rattle.signs.specs.Signs.{isNegative, integerOf, turned}
+use Rattle.codeword.specs.declared.Codebook.{Codebook}
+use Rattle.codeword.proofs.ReadCodeLaws.{readCode-local}
+use Rattle.elements.specs.Limits.{most}
+use Rattle.elements.specs.Decoding.{nil, first, next, run, level, onRead, afterDc, dcTo, nextTo, runTo, signed, levelTo, step}
+use Rattle.elements.specs.Values.{dcOf, firstDc, nextDc, levelOf}
+use Rattle.reading.specs.Steps.{Placed, RunDue, firstDue, dcDue, dcStepOf, dcSays, DcKeeps, DcStepped, RunStepped, levelDue, signDue, LevelStepped}
+use Rattle.elements.specs.declared.values.Dc.the-variants.{Is, Out}
+use Rattle.elements.specs.declared.values.Level.the-variants.{Is as LevelIs, Out as LevelOut}
+use Rattle.reading.specs.declared.Dcs.{Dcs}
+use Rattle.reading.specs.declared.DcStep.the-variants.{No}
+use Rattle.reading.specs.declared.Acs.{Acs}
+use Rattle.reading.specs.declared.RunStep.the-variants.{To as RunTo, No as NoRun}
+use Rattle.reading.specs.declared.LevelStep.{LevelStep}
+use Rattle.reading.specs.declared.LevelStep.the-variants.{To as LevelTo, No as NoLevel}
+use Rattle.elements.proofs.ValueLaws.{dc-range}
+
+-- ---- a DC
+
+dcTo-says : (B : List Bool) (more left : ℕ) (z : ℤ) (neg : Bool) (m q : ℕ)
+    → dcTo more left z neg (dcBook m) (drop q B) ≡ dcSays B more left (dcStepOf (dcOf z neg m) q)
+unfolding dcTo dcOf dcStepOf
+dcTo-says B more left z neg m q = go (leb (natAbs z) most)
+  where
+    go : (b : Bool) → cond b (moved (afterDc more left z neg (dcBook m)) (z ∷ []) (drop q B)) (refuses 8) ≡ dcSays B more left (dcStepOf (cond b (Is z neg m) Out) q)
+    go true = refl
+    go false = refl
+
+dcOf-keeps : (B : List Bool) (z : ℤ) (neg : Bool) (m q : ℕ) → q ≤ length B → DcKeeps B (dcStepOf (dcOf z neg m) q)
+unfolding dcStepOf
+dcOf-keeps B z neg m q h = go (dcOf z neg m) refl
+  where
+    go : (d : _) → dcOf z neg m ≡ d → DcKeeps B (dcStepOf d q)
+    go (Is x b n) e = record { range = dc-range z neg m e; within = h }
+    go Out e = tt
+
+module _ (more left : ℕ) (bs : List Bool) where
+  first-no : (k : ℕ) → readCode firstBook bs ≡ refused k → step (first more left) bs ≡ refuses k
+  unfolding step
+  first-no k e = ap (λ (x : Parsed). onRead x (λ s t. dcTo more left (integerOf s) false (dcBook 3) t)) e
+
+  first-got : (B : List Bool) (s q : ℕ) → readCode firstBook bs ≡ got s (drop q B) → step (first more left) bs ≡ dcSays B more left (dcStepOf (firstDc s) q)
+  unfolding step firstDc
+  first-got B s q e =
+      ap (λ (x : Parsed). onRead x (λ s t. dcTo more left (integerOf s) false (dcBook 3) t)) e ∙ dcTo-says B more left (integerOf s) false 3 q
+
+  module _ (dc : ℤ) (neg : Bool) (book : Codebook) where
+    next-no : (k : ℕ) → readCode book bs ≡ refused k → step (next more left dc neg book) bs ≡ refuses k
+    unfolding step
+    next-no k e = ap (λ (x : Parsed). onRead x (λ s t. nextTo more left dc (turned neg (integerOf s)) t)) e
+
+    next-got : (B : List Bool) (s q : ℕ) → readCode book bs ≡ got s (drop q B)
+        → step (next more left dc neg book) bs ≡ dcSays B more left (dcStepOf (nextDc dc neg s) q)
+    unfolding step nextDc
+    next-got B s q e =
+        let d : ℤ = turned neg (integerOf s) in
+        ap (λ (x : Parsed). onRead x (λ s t. nextTo more left dc (turned neg (integerOf s)) t)) e ∙ dcTo-says B more left (dc +ℤ d) (isNegative d) (natAbs d) q
+
+first-keeps : (B : List Bool) (s q : ℕ) → q ≤ length B → DcKeeps B (dcStepOf (firstDc s) q)
+unfolding firstDc
+first-keeps B s q h = dcOf-keeps B (integerOf s) false 3 q h
+
+next-keeps : (B : List Bool) (dc : ℤ) (neg : Bool) (s q : ℕ) → q ≤ length B → DcKeeps B (dcStepOf (nextDc dc neg s) q)
+unfolding nextDc
+next-keeps B dc neg s q h = let d : ℤ = turned neg (integerOf s) in dcOf-keeps B (dc +ℤ d) (isNegative d) (natAbs d) q h
+
+-- ---- a run that is due
+
+module _ (left : ℕ) (rb lb : Codebook) (bs : List Bool) (some : 0 < left) (more : ended bs ≡ false) where
+  run-due : step (run left rb lb) bs ≡ onRead (readCode rb bs) (λ n t. runTo left lb n t)
+  unfolding step
+  run-due = cond-no _ _ (ap₂ (λ (x y : Bool). x || y) (ne-eqb left 0 (λ e. omega arith)) more)
+
+  run-no : (k : ℕ) → readCode rb bs ≡ refused k → step (run left rb lb) bs ≡ refuses k
+  run-no k e = run-due ∙ ap (λ (x : Parsed). onRead x (λ n t. runTo left lb n t)) e
+
+  run-far : (n : ℕ) (t : List Bool) → readCode rb bs ≡ got n t → left ≤ n → step (run left rb lb) bs ≡ refuses 7
+  unfolding runTo
+  run-far n t e h = run-due ∙ ap (λ (x : Parsed). onRead x (λ n t. runTo left lb n t)) e ∙ cond-no _ _ (le-ltb n left h)
+
+  run-got : (n : ℕ) (t : List Bool) → readCode rb bs ≡ got n t → n < left → step (run left rb lb) bs ≡ moved (level (left - n) (runBook n) lb) (nil n) t
+  unfolding runTo
+  run-got n t e h = run-due ∙ ap (λ (x : Parsed). onRead x (λ n t. runTo left lb n t)) e ∙ cond-yes _ _ (lt-ltb n left h)
+
+-- ---- a level, and its sign
+
+module _ (left : ℕ) (rb lb : Codebook) (bs : List Bool) where
+  level-no : (k : ℕ) → readCode lb bs ≡ refused k → step (level left rb lb) bs ≡ refuses k
+  unfolding step
+  level-no k e = ap (λ (x : Parsed). onRead x (λ s t. levelTo left rb s t)) e
+
+  level-got : (s : ℕ) (t : List Bool) → readCode lb bs ≡ got s t → step (level left rb lb) bs ≡ levelTo left rb s t
+  unfolding step
+  level-got s t e = ap (λ (x : Parsed). onRead x (λ s t. levelTo left rb s t)) e
+
+-- a bit that was read
+bit-read : (g : Bool) (u : List Bool) → readBits 1 (g ∷ u) ≡ got (val g) u
+unfolding number
+bit-read true u = readBits-field 1 (true ∷ u) (omega arith) ∙ readField-all 1 (true ∷ u) (omega arith)
+bit-read false u = readBits-field 1 (false ∷ u) (omega arith) ∙ readField-all 1 (false ∷ u) (omega arith)
+
+val-eqb : (g : Bool) → g ≡ eqb (val g) 1
+val-eqb true = refl
+val-eqb false = refl
+
+bit-got : (bs : List Bool) (v : ℕ) (t : List Bool) → readBits 1 bs ≡ got v t → bs ≡ eqb v 1 ∷ t
+unfolding readBits readField
+bit-got [] v t e = absurd (let z : _≡_ {A = ℕ} 0 1 = cc in omega arith)
+bit-got (g ∷ u) v t e =
+    let x : got (val g) u ≡ got v t = sym (bit-read g u) ∙ e in
+    let a : val g ≡ v = cc in
+    let b : u ≡ t = cc in
+    ap₂ (λ (h : Bool) (l : List Bool). h ∷ l) (val-eqb g ∙ ap (λ (n : ℕ). eqb n 1) a) b
+
+module _ (left : ℕ) (rb : Codebook) (s : ℕ) where
+  sign-no : (bs : List Bool) (k : ℕ) → readBits 1 bs ≡ refused k → levelTo left rb s bs ≡ refuses k
+  unfolding readBits readField levelTo
+  sign-no [] k e = let a : 5 ≡ k = cc in ap refuses a
+  sign-no (g ∷ u) k e =
+      let x : got (val g) u ≡ refused k = sym (bit-read g u) ∙ e in
+      absurd (let z : _≡_ {A = ℕ} 0 1 = cc in omega arith)
+
+  sign-out : (bs : List Bool) (v : ℕ) (t : List Bool) → readBits 1 bs ≡ got v t → levelOf (eqb v 1) s ≡ LevelOut → levelTo left rb s bs ≡ refuses 8
+  unfolding levelTo levelOf
+  sign-out bs v t e o = ap (levelTo left rb s) (bit-got bs v t e) ∙ go (ltb s most) o
+    where
+      go : (b : Bool) → cond b (LevelIs (signed (eqb v 1) s)) LevelOut ≡ LevelOut
+          → cond b (moved (run (left - 1) rb (levelBook s)) (signed (eqb v 1) s ∷ []) t) (refuses 8) ≡ refuses 8
+      go true q = absurd (let z : _≡_ {A = ℕ} 0 1 = cc in omega arith)
+      go false q = refl
+
+  sign-got : (bs : List Bool) (v : ℕ) (t : List Bool) (x : ℤ) → readBits 1 bs ≡ got v t → levelOf (eqb v 1) s ≡ LevelIs x
+      → levelTo left rb s bs ≡ moved (run (left - 1) rb (levelBook s)) (x ∷ []) t
+  unfolding levelTo levelOf
+  sign-got bs v t x e o = ap (levelTo left rb s) (bit-got bs v t e) ∙ go (ltb s most) o
+    where
+      go : (b : Bool) → cond b (LevelIs (signed (eqb v 1) s)) LevelOut ≡ LevelIs x
+          → cond b (moved (run (left - 1) rb (levelBook s)) (signed (eqb v 1) s ∷ []) t) (refuses 8) ≡ moved (run (left - 1) rb (levelBook s)) (x ∷ []) t
+      go true q = let a : signed (eqb v 1) s ≡ x = cc in ap (λ (z : ℤ). moved (run (left - 1) rb (levelBook s)) (z ∷ []) t) a
+      go false q = absurd (let z : _≡_ {A = ℕ} 0 1 = cc in omega arith)
+
+-- ---- what a reader told of a payload that is not too long
+
+module _ (m : Reader) (s : List ℕ) (p : ℕ) (r : Read) (h : length s ≤ payloadLimit) (e : told r ≡ outcomeAt m s p) where
+  read-no : {why : Refusal} → r ≡ Unread why → m (drop p (bitsOf s)) ≡ refused (numberOf why)
+  read-no {why} q = told-refused m s p h (numberOf why) (ap told (sym q) ∙ e)
+
+  read-got : {v : ℕ} {c : Cursor} → Local m → r ≡ Value v c → m (drop p (bitsOf s)) ≡ got v (drop (c .at) (bitsOf s))
+  read-got {v} {c} l q = told-got m s p l h v (c .at) (ap told (sym q) ∙ e) .0
+
+  read-within : {v : ℕ} {c : Cursor} → Local m → r ≡ Value v c → p ≤ length (bitsOf s) → c .at ≤ length (bitsOf s)
+  read-within {v} {c} l q b =
+      let t = told-got m s p l h v (c .at) (ap told (sym q) ∙ e) in
+      omega (arith, t .1, t .2, length-drop p (bitsOf s))
+
+-- ---- what the functions answer
+
+module _ (p : List ℕ) (r : Read) where
+  abbrev B : List Bool
+  B = bitsOf p
+
+  module _ (pl : Placed p 0) (e : told r ≡ outcomeAt (readCode firstBook) p 0) where
+    pub first-stepped-no : (why : Refusal) → r ≡ Unread why → DcStepped B firstDue (No why)
+    first-stepped-no why q = record { is = λ more left. first-no more left B (numberOf why) (read-no (readCode firstBook) p 0 r (pl .fits) e q); keeps = tt }
+
+    pub first-stepped : (v : ℕ) (c : Cursor) → r ≡ Value v c → DcStepped B firstDue (dcStepOf (firstDc v) (c .at))
+    first-stepped v c q =
+        record {
+          is = λ more left. first-got more left B B v (c .at) (read-got (readCode firstBook) p 0 r (pl .fits) e (readCode-local firstBook) q);
+          keeps = first-keeps B v (c .at) (read-within (readCode firstBook) p 0 r (pl .fits) e (readCode-local firstBook) q (pl .within));
+        }
+
+  module _ (s : Dcs) (pl : Placed p (s .at)) (e : told r ≡ outcomeAt (readCode (s .book)) p (s .at)) where
+    pub next-stepped-no : (why : Refusal) → r ≡ Unread why → DcStepped B (dcDue s) (No why)
+    next-stepped-no why q =
+        record {
+          is = λ more left. next-no more left (drop (s .at) B) (s .dc) (s .negative) (s .book) (numberOf why) (read-no (readCode (s .book)) p (s .at) r (pl .fits) e q);
+          keeps = tt;
+        }
+
+    pub next-stepped : (v : ℕ) (c : Cursor) → r ≡ Value v c → DcStepped B (dcDue s) (dcStepOf (nextDc (s .dc) (s .negative) v) (c .at))
+    next-stepped v c q =
+        let l = readCode-local (s .book) in
+        record {
+          is = λ more left.
+              next-got more left (drop (s .at) B) (s .dc) (s .negative) (s .book) B v (c .at) (read-got (readCode (s .book)) p (s .at) r (pl .fits) e l q);
+          keeps = next-keeps B (s .dc) (s .negative) v (c .at) (read-within (readCode (s .book)) p (s .at) r (pl .fits) e l q (pl .within));
+        }
+
+  module _ (total : ℕ) (s : Acs) (pl : Placed p (s .at)) (due : RunDue (bitsOf p) total s) (e : told r ≡ outcomeAt (readCode (s .runs)) p (s .at)) where
+    some : 0 < total - s .place
+    some = omega (arith, due .room)
+
+    pub run-stepped-no : (why : Refusal) → r ≡ Unread why → RunStepped B total s (NoRun why)
+    run-stepped-no why q =
+        record {
+          is = run-no (total - s .place) (s .runs) (s .levels) (drop (s .at) B) some (due .more) (numberOf why) (read-no (readCode (s .runs)) p (s .at) r (pl .fits) e q);
+          keeps = tt;
+        }
+
+    module _ (n : ℕ) (c : Cursor) (q : r ≡ Value n c) where
+      taken : readCode (s .runs) (drop (s .at) B) ≡ got n (drop (c .at) B)
+      taken = read-got (readCode (s .runs)) p (s .at) r (pl .fits) e (readCode-local (s .runs)) q
+
+      pub run-stepped-far : total - s .place ≤ n → RunStepped B total s (NoRun Overrun)
+      run-stepped-far l = record { is = run-far (total - s .place) (s .runs) (s .levels) (drop (s .at) B) some (due .more) n (drop (c .at) B) taken l; keeps = tt }
+
+      pub run-stepped : n < total - s .place → RunStepped B total s (RunTo (record { at = c .at; place = s .place + n; runs = runBook n; levels = s .levels }))
+      run-stepped l =
+          let a : total - s .place - n ≡ total - (s .place + n) = omega arith in
+          let b : n ≡ s .place + n - s .place = omega arith in
+          record {
+            is = run-got (total - s .place) (s .runs) (s .levels) (drop (s .at) B) some (due .more) n (drop (c .at) B) taken l
+                ∙ ap₂ (λ (i j : ℕ). moved (level i (runBook n) (s .levels)) (nil j) (drop (c .at) B)) a b;
+            keeps = record {
+              onward = omega arith;
+              room = omega arith;
+              within = read-within (readCode (s .runs)) p (s .at) r (pl .fits) e (readCode-local (s .runs)) q (pl .within);
+            };
+          }
+
+  module _ (s : Acs) (symbol at : ℕ) (pl : Placed p at) (e : told r ≡ outcomeAt (readBits 1) p at) where
+    pub sign-stepped-no : (why : Refusal) → r ≡ Unread why → LevelStepped B (s .place) (signDue s symbol at) (NoLevel why)
+    sign-stepped-no why q = record { is = λ left. sign-no left (s .runs) symbol (drop at B) (numberOf why) (read-no (readBits 1) p at r (pl .fits) e q); keeps = tt }
+
+    module _ (v : ℕ) (c : Cursor) (q : r ≡ Value v c) where
+      bit : readBits 1 (drop at B) ≡ got v (drop (c .at) B)
+      bit = read-got (readBits 1) p at r (pl .fits) e (readBits-local 1) q
+
+      pub sign-stepped-out : levelOf (eqb v 1) symbol ≡ LevelOut → LevelStepped B (s .place) (signDue s symbol at) (NoLevel Range)
+      sign-stepped-out o = record { is = λ left. sign-out left (s .runs) symbol (drop at B) v (drop (c .at) B) bit o; keeps = tt }
+
+      pub sign-stepped : (x : ℤ) → levelOf (eqb v 1) symbol ≡ LevelIs x
+          → LevelStepped B (s .place) (signDue s symbol at) (LevelTo x (record { at = c .at; place = s .place + 1; runs = s .runs; levels = levelBook symbol }))
+      sign-stepped x o =
+          record {
+            is = λ left. sign-got left (s .runs) symbol (drop at B) v (drop (c .at) B) x bit o;
+            keeps = record { onward = refl; within = read-within (readBits 1) p at r (pl .fits) e (readBits-local 1) q (pl .within) };
+          }
+
+  module _ (s : Acs) (pl : Placed p (s .at)) (e : told r ≡ outcomeAt (readCode (s .levels)) p (s .at)) where
+    pub level-stepped-no : (why : Refusal) → r ≡ Unread why → LevelStepped B (s .place) (levelDue s) (NoLevel why)
+    level-stepped-no why q =
+        record {
+          is = λ left. level-no left (s .runs) (s .levels) (drop (s .at) B) (numberOf why) (read-no (readCode (s .levels)) p (s .at) r (pl .fits) e q);
+          keeps = tt;
+        }
+
+    module _ (v : ℕ) (c : Cursor) (q : r ≡ Value v c) where
+      pub sign-placed : Placed p (c .at)
+      sign-placed = record { fits = pl .fits; within = read-within (readCode (s .levels)) p (s .at) r (pl .fits) e (readCode-local (s .levels)) q (pl .within) }
+
+      -- the sign is read next
+      pub level-stepped : (x : LevelStep) → LevelStepped B (s .place) (signDue s v (c .at)) x → LevelStepped B (s .place) (levelDue s) x
+      level-stepped x l =
+          record {
+            is = λ left.
+                level-got left (s .runs) (s .levels) (drop (s .at) B) v (drop (c .at) B) (read-got (readCode (s .levels)) p (s .at) r (pl .fits) e (readCode-local (s .levels)) q)
+                ∙ l .is left;
+            keeps = l .keeps;
+          }

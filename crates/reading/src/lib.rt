@@ -1,0 +1,265 @@
+// Reading scanned coefficients, an element at a time: the reading half of entropy.rs. One loop reads the DCs and one the runs and levels; a refusal goes up as it is.
+ghost use mathlib.Core.Path.{_≡_};
+ghost use Prim.Native.Nat.{_*_, _≤_, _<_};
+ghost use lib.IntN.{natAbs};
+ghost use lib.ListN.{length};
+ghost use Rattle.bitstream.specs.Bits.{bitsOf};
+ghost use Rattle.bitstream.specs.Told.{payloadLimit};
+ghost use Rattle.elements.specs.Limits.{most};
+ghost use Rattle.elements.specs.Decoding.{nil};
+ghost use Rattle.elements.specs.Limits.{blockLimit};
+ghost use Rattle.reading.specs.Steps.{Placed, RunDue, dcStepOf, firstDue, dcDue, DcStepped, RunStepped, levelDue, signDue, LevelStepped, PairStepped};
+ghost use Rattle.reading.specs.Steps.{DcsStand, AcsStand, behindDcs, DcsRead, reachedSays, answerOf};
+use bitstream::Cursor;
+use bitstream::Read;
+use bitstream::Refusal;
+use codeword::Codebook;
+use elements::values;
+use elements::values::Dc;
+use elements::values::Level;
+
+// Where a reading stands: behind a bit, or refused.
+pub enum Reached {
+    At(usize),
+    No(Refusal),
+}
+
+// What the next DC looks back at: where it begins, the last DC, the last difference's sign and the codebook that its magnitude chose.
+struct Dcs {
+    at: usize,
+    dc: i32,
+    negative: bool,
+    book: Codebook,
+}
+
+enum DcStep {
+    To(Dcs),
+    No(Refusal),
+}
+
+fn dc_to(d: Dc, at: usize) -> DcStep
+    ensures { λ r. ⌜ r ≡ dcStepOf d at ⌝ }
+{
+    match d {
+        Dc::Out => DcStep::No(Refusal::Range),
+        Dc::Is {
+            dc,
+            negative,
+            magnitude,
+        } => {
+            let book = books::dc_diff_codebook(magnitude);
+            DcStep::To(Dcs {
+                at,
+                dc,
+                negative,
+                book,
+            })
+        }
+    }
+}
+
+fn first_step(payload: &[u8]) -> DcStep
+    requires { ⌜ Placed (now payload) 0 ⌝ }
+    ensures { λ r. ⌜ DcStepped (bitsOf (now (payload .entry))) firstDue r ⌝ }
+{
+    let read = books::first_dc_codebook().read(payload, Cursor::new());
+    match read {
+        Read::No(why) => DcStep::No(why),
+        Read::Value { value, next } => dc_to(values::first_dc(value), next.at),
+    }
+}
+
+fn dc_step(payload: &[u8], s: Dcs) -> DcStep
+    requires { ⌜ Placed (now payload) (s .at) × (natAbs (s .dc) ≤ most) ⌝ }
+    ensures { λ r. ⌜ DcStepped (bitsOf (now (payload .entry))) (dcDue s) r ⌝ }
+{
+    let book = s.book;
+    let read = book.read(payload, Cursor { at: s.at });
+    match read {
+        Read::No(why) => DcStep::No(why),
+        Read::Value { value, next } => dc_to(values::next_dc(s.dc, s.negative, value), next.at),
+    }
+}
+
+// The DCs behind the first one, which `from` is the state after.
+fn next_dcs(payload: &[u8], blocks: usize, from: Dcs, out: &mut [i32]) -> Reached
+    requires { ⌜ (length (now payload) ≤ payloadLimit) × DcsStand (bitsOf (now payload)) blocks 1 from (now out) ⌝ }
+    ensures { λ r. ⌜ DcsRead (bitsOf (now (payload .entry))) blocks (now (out .exit)) r ⌝ }
+{
+    let mut s = from;
+    let mut n: usize = 1;
+    while n < blocks {
+        let got = dc_step(payload, s);
+        match got {
+            DcStep::No(why) => {
+                return Reached::No(why);
+            }
+            DcStep::To(next) => {
+                let dc = next.dc;
+                out[n] = dc;
+                s = next;
+                n += 1;
+            }
+        }
+    }
+    Reached::At(s.at)
+}
+
+fn read_dcs(payload: &[u8], blocks: usize, out: &mut [i32]) -> Reached
+    requires { ⌜ (length (now payload) ≤ payloadLimit) × (0 < blocks) × (now out ≡ nil (64 * blocks)) ⌝ }
+    ensures { λ r. ⌜ DcsRead (bitsOf (now (payload .entry))) blocks (now (out .exit)) r ⌝ }
+{
+    let got = first_step(payload);
+    match got {
+        DcStep::No(why) => Reached::No(why),
+        DcStep::To(s) => {
+            let dc = s.dc;
+            out[0] = dc;
+            next_dcs(payload, blocks, s, out)
+        }
+    }
+}
+
+// What the next run or level looks back at: where it begins, its place in the list, and the codebooks of the next run and the next level.
+struct Acs {
+    at: usize,
+    place: usize,
+    runs: Codebook,
+    levels: Codebook,
+}
+
+enum RunStep {
+    To(Acs),
+    No(Refusal),
+}
+
+enum LevelStep {
+    To(i32, Acs),
+    No(Refusal),
+}
+
+// A run: the level that is due stands at its end.
+fn run_step(payload: &[u8], total: usize, s: Acs) -> RunStep
+    requires { ⌜ Placed (now payload) (s .at) × RunDue (bitsOf (now payload)) total s ⌝ }
+    ensures { λ r. ⌜ RunStepped (bitsOf (now (payload .entry))) total s r ⌝ }
+{
+    let book = s.runs;
+    let read = book.read(payload, Cursor { at: s.at });
+    match read {
+        Read::No(why) => RunStep::No(why),
+        Read::Value { value, next } => {
+            if total - s.place <= value as usize {
+                return RunStep::No(Refusal::Overrun);
+            }
+            let runs = books::run_codebook(value);
+            let levels = s.levels;
+            RunStep::To(Acs {
+                at: next.at,
+                place: s.place + value as usize,
+                runs,
+                levels,
+            })
+        }
+    }
+}
+
+// The sign of the level whose symbol was read, and the level.
+fn sign_step(payload: &[u8], s: Acs, symbol: u32, at: usize) -> LevelStep
+    requires { ⌜ Placed (now payload) at × (s .place < 2048) ⌝ }
+    ensures { λ r. ⌜ LevelStepped (bitsOf (now (payload .entry))) (s .place) (signDue s symbol at) r ⌝ }
+{
+    let read = Cursor { at }.read_bit(payload);
+    match read {
+        Read::No(short) => LevelStep::No(short),
+        Read::Value { value, next } => {
+            let level = values::level_of(value == 1, symbol);
+            match level {
+                Level::Out => LevelStep::No(Refusal::Range),
+                Level::Is(v) => {
+                    let runs = s.runs;
+                    let levels = books::level_codebook(symbol);
+                    let place = s.place + 1;
+                    LevelStep::To(
+                        v,
+                        Acs {
+                            at: next.at,
+                            place,
+                            runs,
+                            levels,
+                        },
+                    )
+                }
+            }
+        }
+    }
+}
+
+fn level_step(payload: &[u8], s: Acs) -> LevelStep
+    requires { ⌜ Placed (now payload) (s .at) × (s .place < 2048) ⌝ }
+    ensures { λ r. ⌜ LevelStepped (bitsOf (now (payload .entry))) (s .place) (levelDue s) r ⌝ }
+{
+    let book = s.levels;
+    let read = book.read(payload, Cursor { at: s.at });
+    match read {
+        Read::No(why) => LevelStep::No(why),
+        Read::Value { value, next } => sign_step(payload, s, value, next.at),
+    }
+}
+
+// A run and its level.
+fn pair_step(payload: &[u8], total: usize, s: Acs) -> LevelStep
+    requires { ⌜ Placed (now payload) (s .at) × RunDue (bitsOf (now payload)) total s × (total ≤ 2048) ⌝ }
+    ensures { λ r. ⌜ PairStepped (bitsOf (now (payload .entry))) total s r ⌝ }
+{
+    let run = run_step(payload, total, s);
+    match run {
+        RunStep::No(why) => LevelStep::No(why),
+        RunStep::To(next) => level_step(payload, next),
+    }
+}
+
+// The runs and levels from the bit `at` on, behind the DCs.
+fn read_acs(payload: &[u8], blocks: usize, at: usize, out: &mut [i32]) -> Reached
+    requires { ⌜ (length (now payload) ≤ payloadLimit) × (blocks ≤ blockLimit) × AcsStand (bitsOf (now payload)) blocks (behindDcs blocks at) (now out) ⌝ }
+    ensures { λ r. ⌜ reachedSays blocks r (now (out .exit)) ≡ answerOf (bitsOf (now (payload .entry))) blocks ⌝ }
+{
+    let total = 64 * blocks;
+    let mut s = Acs {
+        at,
+        place: blocks,
+        runs: books::run_codebook(4),
+        levels: books::level_codebook(1),
+    };
+    while s.place < total {
+        if (Cursor { at: s.at }).end_of_data(payload) {
+            return Reached::At(s.at);
+        }
+        let got = pair_step(payload, total, s);
+        match got {
+            LevelStep::No(why) => {
+                return Reached::No(why);
+            }
+            LevelStep::To(v, next) => {
+                let behind = next.place;
+                out[behind - 1] = v;
+                s = next;
+            }
+        }
+    }
+    Reached::At(s.at)
+}
+
+// The coefficients of all blocks, into a list that is all zero.
+pub fn read_all(payload: &[u8], blocks: usize, out: &mut [i32]) -> Reached
+    requires { ⌜ (length (now payload) ≤ payloadLimit) × (blocks ≤ blockLimit) × (now out ≡ nil (64 * blocks)) ⌝ }
+    ensures { λ r. ⌜ reachedSays blocks r (now (out .exit)) ≡ answerOf (bitsOf (now (payload .entry))) blocks ⌝ }
+{
+    if blocks == 0 {
+        return Reached::At(0);
+    }
+    let dcs = read_dcs(payload, blocks, out);
+    match dcs {
+        Reached::No(why) => Reached::No(why),
+        Reached::At(at) => read_acs(payload, blocks, at, out),
+    }
+}

@@ -1,0 +1,2 @@
+pub mod DoingLaws
+pub mod WritingLaws

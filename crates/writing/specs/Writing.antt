@@ -1,0 +1,83 @@
+-- The encoder's own terms, in its functions' contracts: the code from a state on, coefficient by coefficient, and a code that is being written.
+use Prim.Native.Nat.{ℕ, _+_, _-_, _*_, _^_, _≤_, _<_}
+use mathlib.Core.Path.{_≡_}
+use mathlib.Core.Bool.{Bool, true, false, cond}
+use mathlib.Core.List.{List, [], _∷_, _++_}
+use lib.Dec.{eqb}
+use lib.IntN.{ℤ, natAbs, _-ℤ_}
+use lib.ListN.{length}
+use Rattle.bitstream.specs.Bits.{field}
+use Rattle.bitstream.specs.Puts.{Puts}
+use Rattle.codeword.specs.Codewords.{code}
+use Rattle.books.specs.Books.{dcBook, runBook, levelBook}
+use Rattle.codeword.specs.Words.{InUse}
+use Rattle.signs.specs.Signs.{isNegative, symbolOf, turned}
+use Rattle.elements.specs.Elements.{bits, acElements, dcElements}
+use Rattle.elements.specs.Limits.{most}
+use Rattle.writing.specs.declared.Dcs.{Dcs}
+use Rattle.writing.specs.declared.Acs.{Acs}
+
+-- the bits are the len low bits of value, which codeword::put::put_word takes
+pub record WordOf (bits : List Bool) (len value : ℕ) : Type 0 where
+  pub is : field len value ≡ bits
+  pub fits : value < 2 ^ len
+  pub small : value < 2 ^ 34
+  pub short : len ≤ 69
+
+abbrev pub IsWord : ℕ → ℕ → Type 0
+IsWord len value = WordOf (field len value) len value
+
+-- ---- DC
+
+pub record DcFits (s : Dcs) : Type 0 where
+  pub book : InUse (s .book)
+  pub dc : natAbs (s .dc) ≤ most
+
+unfoldable pub firstDcs : ℤ → Dcs
+firstDcs c = record { dc = c; negative = false; book = dcBook 3 }
+
+unfoldable pub dcBits : Dcs → ℤ → List Bool
+dcBits s c = code (s .book) (symbolOf (turned (s .negative) (c -ℤ s .dc)))
+
+unfoldable pub dcAfter : Dcs → ℤ → Dcs
+dcAfter s c = record { dc = c; negative = isNegative (c -ℤ s .dc); book = dcBook (natAbs (c -ℤ s .dc)) }
+
+-- n DCs are due, and then AC
+unfoldable pub dcsCode : ℕ → Dcs → List ℤ → List Bool
+dcsCode n s cs = bits (dcElements n (s .dc) (s .negative) (s .book) cs)
+
+-- ---- AC
+
+-- at most n coefficients were passed
+pub record AcFits (n : ℕ) (s : Acs) : Type 0 where
+  pub run : s .run ≤ n
+  pub runs : InUse (s .runs)
+  pub levels : InUse (s .levels)
+
+unfoldable pub firstAcs : Acs
+firstAcs = record { run = 0; runs = runBook 4; levels = levelBook 1 }
+
+-- a run, and a level with its sign; a zero has no bits of its own
+unfoldable pub acBits : Acs → ℤ → List Bool
+acBits s c = cond (eqb (natAbs c) 0) [] (code (s .runs) (s .run) ++ (code (s .levels) (natAbs c - 1) ++ (isNegative c ∷ [])))
+
+unfoldable pub acAfter : Acs → ℤ → Acs
+acAfter s c =
+    cond (eqb (natAbs c) 0) (record { run = s .run + 1; runs = s .runs; levels = s .levels })
+    (record { run = 0; runs = runBook (s .run); levels = levelBook (natAbs c - 1) })
+
+unfoldable pub acsCode : Acs → List ℤ → List Bool
+acsCode s cs = bits (acElements (s .runs) (s .levels) (s .run) cs)
+
+-- ---- writing
+
+-- n bits at bit p of a buffer are inside it, and far below what a position can count
+pub record Room (buf : List ℕ) (p n : ℕ) : Type 0 where
+  pub inside : p + n ≤ 8 * length buf
+  pub below : p + n < 2 ^ 63
+
+-- from the buffer e and the bit p, the code whole is being written: buf and at are where it stands, and rest is to come
+pub record Doing (e : List ℕ) (p : ℕ) (whole : List Bool) (buf : List ℕ) (at : ℕ) (rest : List Bool) : Type 0 where
+  pub done : List Bool
+  pub join : done ++ rest ≡ whole
+  pub puts : Puts e p done buf at

@@ -18,7 +18,7 @@ compare:
 	target/compare/driver
 	target/compare/vectors
 
-# The same with tens of millions of random cases, from another seed, and with every payload of 3 bytes.
+# The same with tens of millions of random cases, from another seed.
 compare-long: SEED = 3
 compare-long: CASES = 20000000
 compare-long:

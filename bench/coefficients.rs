@@ -34,7 +34,7 @@ pub fn run(plan: &Plan) {
 fn real_cases() -> Result<Vec<Case>, String> {
     let mut cases = Vec::new();
     for line in slices::lines()? {
-        for payload in slices::payloads(&line)? {
+        for payload in slices::slice(&line)?.payloads {
             let (blocks, code) = (payload.blocks, payload.bytes);
             let list = real::decode_scanned_coefficients(&code, blocks).expect("a real payload is read");
             cases.push(Case { blocks, list, code });

@@ -1,7 +1,8 @@
 #!/bin/sh
-# bench/count.sh: instructions of the coefficient coder by valgrind's cachegrind, as a ratio of the proved
-# code to the Rust over its own bitstream.rs and over the plain bit layer. Unlike times they repeat, on a
-# busy machine too; they are a machine's own, and not its time. Needs target/bench/bench (bench/run.sh).
+# bench/count.sh: instructions of the coefficient coder and of whole slices by valgrind's cachegrind, as a
+# ratio of the proved code to the Rust over its own bitstream.rs and over the plain bit layer. Unlike times
+# they repeat, on a busy machine too; they are a machine's own, and not its time. Needs target/bench/bench
+# (bench/run.sh).
 set -eu
 cd "$(dirname "$0")/.."
 command -v valgrind >/dev/null || { echo "count: valgrind is not here, so no instructions are counted"; exit; }
@@ -14,12 +15,12 @@ instructions() { # WORDS..
 }
 
 # Instructions of one round: what three rounds have more than one, halved, so that the start does not count.
-round() { # WHAT SIDE
-    three=$(instructions 3 coefficients "$1" "$2")
-    one=$(instructions 1 coefficients "$1" "$2")
+round() { # CODER WHAT SIDE
+    three=$(instructions 3 "$@")
+    one=$(instructions 1 "$@")
     # a run that failed has no number
     if [ "${three:-0}" -le "${one:-0}" ]; then
-        echo "count: valgrind counted nothing for $2 in '$1'" >&2
+        echo "count: valgrind counted nothing for $3 in '$2'" >&2
         exit 1
     fi
     echo $(((three - one) / 2))
@@ -31,13 +32,22 @@ ratio() { # A B
     printf '%d.%02d' $((hundredths / 100)) $((hundredths % 100))
 }
 
-for what in 'decode real' 'decode dense' 'decode sparse' \
-    'encode real' 'encode real, room to the byte' 'encode dense' 'encode sparse'; do
-    # without the real slices there are no such races, which the benchmark itself has told
-    target/bench/bench 1 coefficients "$what" proved >/dev/null 2>&1 || continue
-    proved=$(round "$what" proved)
-    rust=$(round "$what" rust)
-    plain=$(round "$what" plain)
-    echo "$what: instructions a round: proved $proved, Rust $rust, over plain bits $plain;" \
-        "proved / Rust $(ratio "$proved" "$rust"), over plain bits $(ratio "$proved" "$plain")"
-done
+# The races of a coder, one line each.
+count() { # CODER WHAT..
+    coder=$1
+    shift
+    for what in "$@"; do
+        # without the real slices there are no such races, which the benchmark itself has told
+        target/bench/bench 1 "$coder" "$what" proved >/dev/null 2>&1 || continue
+        proved=$(round "$coder" "$what" proved)
+        rust=$(round "$coder" "$what" rust)
+        plain=$(round "$coder" "$what" plain)
+        echo "$what: instructions a round: proved $proved, Rust $rust, over plain bits $plain;" \
+            "proved / Rust $(ratio "$proved" "$rust"), over plain bits $(ratio "$proved" "$plain")"
+    done
+}
+
+count coefficients 'decode real' 'decode dense' 'decode sparse' \
+    'encode real' 'encode real, room to the byte' 'encode dense' 'encode sparse'
+count whole_slices 'decode real slices' 'decode dense slices' 'decode sparse slices' \
+    'encode real slices' 'encode real slices, room to the byte' 'encode dense slices' 'encode sparse slices'

@@ -21,9 +21,17 @@ mod model;
 #[path = "../compare/probe.rs"]
 #[allow(dead_code)]
 mod probe;
+#[path = "../compare/probe_slices.rs"]
+#[allow(dead_code)]
+mod probe_slices;
 #[path = "../compare/random.rs"]
 #[allow(dead_code)]
 mod random;
+#[path = "../compare/shape.rs"]
+mod shape;
+#[path = "../oracle/slice_model.rs"]
+#[allow(dead_code)]
+mod slice_model;
 #[path = "../compare/slices.rs"]
 #[allow(dead_code)]
 mod slices;
@@ -40,6 +48,7 @@ macro_rules! coders {
 coders! {
     bits
     coefficients
+    whole_slices
 }
 
 /// The sides of a race in their order; a race may have the first two alone.

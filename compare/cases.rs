@@ -54,6 +54,21 @@ impl<T: Guarded> Lent<T> {
     }
 }
 
+/// What a list holds before a call, at each place something else.
+pub fn old_coefficient(place: usize) -> i32 {
+    0x3a5c_0000 ^ place as i32
+}
+
+/// What a buffer holds before a call.
+pub fn old_byte(place: usize) -> u8 {
+    0xa5 ^ place as u8
+}
+
+/// Whether a list still holds what it did before a call; one of nothing tells nothing.
+pub fn as_it_was<T: Copy + PartialEq>(items: &[T], old: fn(usize) -> T) -> bool {
+    !items.is_empty() && items.iter().enumerate().all(|(place, &item)| item == old(place))
+}
+
 /// Every string of this many bytes.
 pub fn every(bytes: usize) -> impl Iterator<Item = Vec<u8>> {
     (0..1u64 << (8 * bytes)).map(move |number| number.to_be_bytes()[8 - bytes..].to_vec())

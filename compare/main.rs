@@ -1,23 +1,31 @@
 // driver [SEED] [CASES] [STEP]: holds the proved code, linked in as C would link it, to the oracle.
 //
-// Each coder has every small input tried, then CASES random ones; SEED repeats a run. Of the inputs that
-// are too many for every run, each STEPth is tried. Everything is asked three times: of the proved code,
-// of the Rust over the plain bit layer, which decides, and of the Rust over its own bitstream.rs, from
-// which only the listed difference is allowed. The last line counts checks, not cases: one for each
-// function and oracle, and one for each answer that must have been met, so that a run that never came
-// by a refusal does not pass for one that tried it.
+// Each coder has every small input tried, then CASES random ones, or a fixed share of them where one case is
+// the work of many; SEED repeats a run. Of the inputs that are too many for every run, each STEPth is
+// tried. Everything is asked three times: of the proved code, of the Rust over the plain bit layer, which
+// decides, and of the Rust over its own bitstream.rs, from which only the listed difference is allowed.
+// The last line counts checks, not cases: one for each function and oracle, and one for each answer that
+// must have been met, so that a run that never came by a refusal does not pass for one that tried it.
 use std::time::Instant;
 
 mod cases;
 mod lists;
+#[path = "../oracle/matrix_model.rs"]
+mod matrix_model;
 #[path = "../oracle/model.rs"]
 mod model;
 mod oracles;
 mod probe;
+mod probe_matrices;
+mod probe_slices;
 mod random;
 #[path = "../oracle/refusal.rs"]
 mod refusal;
+mod refused;
 mod report;
+mod shape;
+#[path = "../oracle/slice_model.rs"]
+mod slice_model;
 mod streams;
 
 /// Makes the module of each coder known, and puts its `run` into the list.
@@ -32,6 +40,8 @@ macro_rules! coders {
 coders! {
     bits
     coefficients
+    whole_slices
+    matrices
 }
 
 /// What the command line asks for.
@@ -49,7 +59,7 @@ fn main() {
             std::process::exit(2);
         }),
     };
-    let run = Run { seed: number(1, 1), cases: number(2, 1_000_000), step: number(3, 7).max(1) as usize };
+    let run = Run { seed: number(1, 1), cases: number(2, 1_000_000), step: number(3, 1).max(1) as usize };
     println!("seed {}, {} random cases, step {}", run.seed, run.cases, run.step);
     // a panic of the oracle is a fault of the case, and the report tells of it
     std::panic::set_hook(Box::new(|_| {}));

@@ -1,20 +1,28 @@
 // oracle_check: the oracles alone, before anything is held to them. Document 01's table 'Bits written
-// out' must hold for the Rust over both bit layers, and the layers must differ in the end of data as
-// listed. Built over the checked oracles too: no line may overflow. The last line counts these lines.
+// out' and its single numbers on slices and matrices must hold for the Rust over both bit layers, and the
+// layers must differ in the end of data as listed. Built over the checked oracles too: no line may
+// overflow. The last line counts these lines.
 use std::panic::{catch_unwind, AssertUnwindSafe};
 
+// shared with the comparison, which uses more of it
+#[path = "../oracle/matrix_model.rs"]
+#[allow(dead_code)]
+mod matrix_model;
 #[path = "../oracle/refusal.rs"]
 mod refusal;
+use matrix_model::before_holding;
 use refusal::refusal;
 
 mod plain {
     use oracle_plain as rust;
     include!("table.rs");
+    include!("slice_table.rs");
 }
 
 mod real {
     use oracle_real as rust;
     include!("table.rs");
+    include!("slice_table.rs");
 }
 
 /// Counts lines that came out as they should.
@@ -69,6 +77,7 @@ fn main() {
 
     let mut over_plain = Lines::new("the Rust over plain bits");
     plain::table(&mut over_plain);
+    plain::slice_table(&mut over_plain);
     bit_counts(&mut over_plain);
     // up to 31 zero bits may follow for bitstream.rs, any number by document 01
     over_plain.line("80 00 00 00, 1 block", "accepted", || plain::accepted(&[0x80, 0, 0, 0]));
@@ -76,6 +85,7 @@ fn main() {
 
     let mut over_real = Lines::new("the Rust over bitstream.rs");
     real::table(&mut over_real);
+    real::slice_table(&mut over_real);
     over_real.line("80 00 00 00, 1 block", "accepted", || real::accepted(&[0x80, 0, 0, 0]));
     over_real.line("80 00 00 00 00, 1 block", "refused 6", || real::accepted(&[0x80, 0, 0, 0, 0]));
 

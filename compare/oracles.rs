@@ -1,17 +1,22 @@
 // The Rust over each of its two bit layers. Both crates have the same items, so the files are read twice:
-// layer.rs has what the bit layer does, coder.rs what the coder over it does.
+// layer.rs has what the bit layer does, coder.rs what the coder over it does, slice_coder.rs slices and
+// matrix_tables.rs matrices.
 use crate::refusal::refusal;
 
 pub mod plain {
     use oracle_plain as rust;
     include!("layer.rs");
     include!("coder.rs");
+    include!("slice_coder.rs");
+    include!("matrix_tables.rs");
 }
 
 pub mod real {
     use oracle_real as rust;
     include!("layer.rs");
     include!("coder.rs");
+    include!("slice_coder.rs");
+    include!("matrix_tables.rs");
 }
 
 /// What a bit layer of the Rust does, at any bit position. It has no limits, and no refusal but the

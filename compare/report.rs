@@ -183,7 +183,8 @@ impl Report {
         }
     }
 
-    fn meet(&mut self, times: u64, what: &str) {
+    /// Counts a check of its own: what must be met in a run, so many times it was.
+    pub fn meet(&mut self, times: u64, what: &str) {
         self.note(times > 0);
         match times {
             0 => println!("    FAILED: {} was never met", what),

@@ -1,10 +1,20 @@
-// The coefficient payloads of real slices, which three encoders wrote, with what must be read from them:
-// the file real-slices.jsonl, one JSON object a line, in ../shared/vectors or in the folder that the
-// environment variable MUONSATREY_VECTORS names.
+// Real slices, which three encoders wrote, with what must be read from them: the file real-slices.jsonl, one
+// JSON object a line, in ../shared/vectors or in the folder that the environment variable
+// MUONSATREY_VECTORS names. Of a slice its coefficients are taken, and not its alpha.
 use std::fs;
 use std::path::Path;
 
 use crate::json::Json;
+use crate::shape::Shape;
+
+pub struct Slice {
+    pub name: String,
+    pub shape: Shape,
+    /// Y, Cb and Cr.
+    pub payloads: [Payload; 3],
+    /// SHA-256 of the list of blocks as little-endian i32.
+    pub sha: String,
+}
 
 /// One component of a slice.
 pub struct Payload {
@@ -33,22 +43,23 @@ pub fn lines() -> Result<Vec<String>, String> {
     Ok(text.lines().map(str::to_string).collect())
 }
 
-/// The three payloads of a slice, given by a line of the file.
-pub fn payloads(line: &str) -> Result<Vec<Payload>, String> {
+/// A slice, given by a line of the file.
+pub fn slice(line: &str) -> Result<Slice, String> {
     let slice = Json::parse(line)?;
-    let macroblocks = slice.get("mbs")?.number()?;
-    let chroma = match slice.get("fmt")?.number()? {
+    let number = |key: &str| slice.get(key)?.number();
+    let shape = Shape { macroblocks: number("mbs")?, chroma: number("fmt")?, scan: number("scan")? };
+    let chroma = match shape.chroma {
         2 => 2,
         3 => 4,
         other => return Err(format!("the format {} is unknown", other)),
     };
     let bytes = from_base64(slice.get("slice")?.text()?)?;
     let lengths = slice.get("len")?.list()?.iter().map(Json::number).collect::<Result<Vec<_>, _>>()?;
-    let header = if slice.get("kind")?.number()? == 0 { 6 } else { 8 };
+    let header = if number("kind")? == 0 { 6 } else { 8 };
     if header + lengths.iter().sum::<usize>() != bytes.len() {
         return Err("the lengths are not those of the slice".to_string());
     }
-    let name = format!("{} slice {}", slice.get("enc")?.text()?, slice.get("id")?.number()?);
+    let name = format!("{} slice {}", slice.get("enc")?.text()?, number("id")?);
     let (bits, sha) = (slice.get("bits")?.list()?, slice.get("sha")?.list()?);
     if lengths.len() < 3 || bits.len() != 3 || sha.len() != 3 {
         return Err("there are not three components".to_string());
@@ -57,15 +68,16 @@ pub fn payloads(line: &str) -> Result<Vec<Payload>, String> {
     let mut payload = |i: usize| {
         let from = at;
         at += lengths[i];
-        Ok(Payload {
+        Ok::<_, String>(Payload {
             name: format!("{} {}", name, COMPONENTS[i]),
-            blocks: macroblocks * if i == 0 { 4 } else { chroma },
+            blocks: shape.macroblocks * if i == 0 { 4 } else { chroma },
             bytes: bytes[from..at].to_vec(),
             bits: bits[i].number()?,
             sha: sha[i].text()?.to_string(),
         })
     };
-    (0..3).map(|i| payload(i)).collect()
+    let payloads = [payload(0)?, payload(1)?, payload(2)?];
+    Ok(Slice { name, shape, payloads, sha: slice.get("blocks")?.text()?.to_string() })
 }
 
 fn from_base64(text: &str) -> Result<Vec<u8>, String> {

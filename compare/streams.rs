@@ -173,6 +173,11 @@ fn random_elements(random: &mut Random, blocks: usize) -> Vec<u8> {
     stream.bits.finish()
 }
 
+/// The code of a list that is in range.
+pub fn code(list: &[i32], blocks: usize) -> Vec<u8> {
+    encode_scanned_coefficients(list, blocks).expect("a list of 64 x its blocks")
+}
+
 /// A payload, good or bad in one of many ways.
 pub fn random_payload(random: &mut Random, blocks: usize) -> Vec<u8> {
     let mut bytes = match random.below(8) {
@@ -183,7 +188,7 @@ pub fn random_payload(random: &mut Random, blocks: usize) -> Vec<u8> {
             let mut list = random_list(random, blocks);
             // the Rust may panic on what is out of range, and here only a code is wanted
             list.iter_mut().for_each(|value| *value = (*value).clamp(-MOST as i32, MOST as i32));
-            encode_scanned_coefficients(&list, blocks).expect("a list of 64 x its blocks")
+            code(&list, blocks)
         }
     };
     match random.below(8) {

@@ -1,18 +1,27 @@
-// vectors: the proved code on the coefficient payloads of real slices (slices.rs). Each must be read with
-// the bits and the coefficients that are written there, and be written back byte for byte. The last line
-// counts payloads, once for reading and once for writing, and one for having tried all that the file has.
+// vectors: the proved code on real slices (slices.rs). Each payload by itself, and each slice as a whole, must
+// be read with the bits and the coefficients that are written there, and be written back byte for byte. The
+// last line counts payloads and slices, once for reading and once for writing; one for having tried all
+// that the file has; and one for each kind of slice that must be among them.
 mod json;
 // shared with the comparison, which uses more of it
 #[allow(dead_code)]
 mod probe;
+mod probe_slices;
 mod sha256;
+mod shape;
 mod slices;
 
 use sha256::sha256;
-use slices::{Payload, COMPONENTS};
+use shape::KINDS;
+use slices::{Payload, Slice, COMPONENTS};
 
 /// Coefficients that no payload has, which must not be left in the list.
 const OLD: i32 = 0x3a5c_3a5c;
+
+/// The hash of a list as the file has it.
+fn hash(list: &[i32]) -> String {
+    sha256(&list.iter().flat_map(|value| value.to_le_bytes()).collect::<Vec<u8>>())
+}
 
 /// Reads a payload; on success the list is what its hash says.
 fn read(payload: &Payload) -> Result<Vec<i32>, String> {
@@ -24,8 +33,7 @@ fn read(payload: &Payload) -> Result<Vec<i32>, String> {
     if bits != payload.bits {
         return Err(format!("{} bits were read, not {}", bits, payload.bits));
     }
-    let bytes: Vec<u8> = list.iter().flat_map(|value| value.to_le_bytes()).collect();
-    if sha256(&bytes) != payload.sha {
+    if hash(&list) != payload.sha {
         return Err("the coefficients are not those of the hash".to_string());
     }
     Ok(list)
@@ -41,6 +49,42 @@ fn write(payload: &Payload, list: &[i32]) -> Result<(), String> {
     }
     if buffer != payload.bytes {
         return Err("written back with other bytes".to_string());
+    }
+    Ok(())
+}
+
+/// Reads a slice; on success the list of blocks is what its hash says.
+fn read_slice(slice: &Slice) -> Result<Vec<i32>, String> {
+    let [y, cb, cr] = &slice.payloads;
+    let mut list = vec![OLD; 64 * (y.blocks + cb.blocks + cr.blocks)];
+    let told = probe_slices::decode_slice([&y.bytes, &cb.bytes, &cr.bytes], slice.shape, &mut list);
+    if (told.number, told.component) != (0, 0) {
+        return Err(format!("refused {} in component {}", told.number, told.component));
+    }
+    if told.bits != [y.bits, cb.bits, cr.bits] {
+        return Err(format!("{:?} bits were read, not {:?}", told.bits, [y.bits, cb.bits, cr.bits]));
+    }
+    if hash(&list) != slice.sha {
+        return Err("the blocks are not those of the hash".to_string());
+    }
+    Ok(list)
+}
+
+/// Writes a list of blocks into just the room of the slice that it was read from.
+fn write_slice(slice: &Slice, list: &[i32]) -> Result<(), String> {
+    let payloads = &slice.payloads;
+    let (bytes, bits) = ([0, 1, 2].map(|i| payloads[i].bytes.len()), [0, 1, 2].map(|i| payloads[i].bits));
+    let mut buffer = vec![0xff; bytes.iter().sum()];
+    let told = probe_slices::encode_slice(list, slice.shape, &mut buffer);
+    if told != (probe_slices::Encoded { number: 0, bytes, bits, needed: 0 }) {
+        return Err(format!("written back with answer {}, {:?} bytes and {:?} bits", told.number, told.bytes, told.bits));
+    }
+    let (y, rest) = buffer.split_at(bytes[0]);
+    let (cb, cr) = rest.split_at(bytes[1]);
+    for (part, payload) in [y, cb, cr].into_iter().zip(payloads) {
+        if part != payload.bytes {
+            return Err(format!("{} was written back with other bytes", payload.name));
+        }
     }
     Ok(())
 }
@@ -73,33 +117,42 @@ fn main() {
     assert_eq!(sha256(b"abc"), "ba7816bf8f01cfea414140de5dae2223b00361a396177a9cb410ff61f20015ad");
 
     let mut count = Count::default();
-    let (mut slices, mut tried, mut bytes) = (0, 0, 0);
+    let (mut tried, mut bytes, mut of_kind) = (0, 0, [0; 4]);
     let lines = slices::lines().unwrap_or_else(|why| {
         println!("vectors: {}", why);
         Vec::new()
     });
+    let unread = || Err("not read, so not written".to_string());
     for (i, line) in lines.iter().enumerate() {
-        match slices::payloads(line) {
+        match slices::slice(line) {
             Err(why) => println!("line {}: {}", i + 1, why),
-            Ok(payloads) => {
-                slices += 1;
-                for payload in &payloads {
+            Ok(slice) => {
+                for payload in &slice.payloads {
                     tried += 1;
                     bytes += payload.bytes.len();
                     let list = count.note(&payload.name, read(payload));
-                    let written = list.map_or(Err("not read, so not written".to_string()), |list| write(payload, &list));
-                    count.note(&payload.name, written);
+                    count.note(&payload.name, list.map_or_else(unread, |list| write(payload, &list)));
                 }
+                let kind = KINDS.iter().position(|&kind| kind == (slice.shape.chroma, slice.shape.scan));
+                kind.into_iter().for_each(|kind| of_kind[kind] += 1);
+                let list = count.note(&slice.name, read_slice(&slice));
+                count.note(&slice.name, list.map_or_else(unread, |list| write_slice(&slice, &list)));
             }
         }
     }
+    let slices: usize = of_kind.iter().sum();
     println!("{} slices with {} payloads of {} bytes, read and written back", slices, tried, bytes);
-    let all = if tried > 0 && tried == COMPONENTS.len() * lines.len() {
+    let all = if slices > 0 && slices == lines.len() && tried == COMPONENTS.len() * lines.len() {
         Ok(())
     } else {
         Err(format!("the file has {} slices, so {} payloads", lines.len(), COMPONENTS.len() * lines.len()))
     };
     count.note("all that the file has", all);
+    for ((chroma, scan), slices) in KINDS.into_iter().zip(of_kind) {
+        let kind = format!("slices of format {}, scan {}", chroma, scan);
+        println!("{}: {}", kind, slices);
+        count.note(&kind, if slices > 0 { Ok(()) } else { Err("the file has none".to_string()) });
+    }
     println!("{} passed, {} failed", count.passed, count.failed);
     std::process::exit(i32::from(count.failed > 0));
 }

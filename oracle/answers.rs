@@ -11,11 +11,13 @@ use std::path::Path;
 
 use oracle_plain::bitstream::{BitReader, BitWriter};
 
+mod blend;
 mod coefficients;
 // shared with the comparison, which uses more of them
 #[path = "../compare/lists.rs"]
 #[allow(dead_code)]
 mod lists;
+mod matrices;
 #[allow(dead_code)]
 mod model;
 #[path = "../compare/random.rs"]
@@ -303,6 +305,7 @@ fn main() {
     for coder in words {
         match coder.as_str() {
             "coefficients" => coefficients::add_to(&mut stored),
+            "matrices" => matrices::add_to(&mut stored),
             _ => panic!("there are no cases of {}", coder),
         }
     }

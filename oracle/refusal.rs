@@ -3,6 +3,8 @@
 /// The refusal that an error text of the Rust stands for; 0 for none.
 pub fn refusal(text: &str) -> u32 {
     let numbers = [
+        ("mb_count out of range", 1),
+        ("block-count mismatch", 2),
         ("EOF", 5),
         ("prefix too long", 6),
         ("suffix too wide", 6),

@@ -6,18 +6,13 @@
 // list and buffer and the bound on a code are rules of document 01 alone: oracle/model.rs has them.
 use std::fmt;
 
-use crate::cases::{shown, shown_list, Lent};
+use crate::cases::{as_it_was, old_byte, old_coefficient, shown, shown_list, Lent};
 use crate::model::{self, MOST_BLOCKS, MOST_BYTES};
 use crate::oracles::{plain, real};
 use crate::probe;
 use crate::report::{guarded, told_both, Check, Report, Size, Verdict, MORE, PLAIN, REAL};
 
 // ---- one call of decode
-
-/// What a list holds before a call, at each place something else.
-fn old_coefficient(place: usize) -> i32 {
-    0x3a5c_0000 ^ place as i32
-}
 
 /// What a call of decode answered, and the list after it.
 #[derive(PartialEq)]
@@ -35,7 +30,7 @@ impl fmt::Display for Decoded<'_> {
             number if self.bits == 0 => write!(f, "refused {}, ", number)?,
             number => write!(f, "refused {} with {} bits, ", number, self.bits)?,
         }
-        if !self.list.is_empty() && self.list.iter().enumerate().all(|(place, &value)| value == old_coefficient(place)) {
+        if as_it_was(self.list, old_coefficient) {
             write!(f, "list as it was")?;
         } else {
             write!(f, "list {}", shown_list(self.list))?;
@@ -98,11 +93,6 @@ fn of_real(ours: &Decoded<'_>, exact: &[i64], theirs: &Theirs, payload: &[u8]) -
 
 // ---- one call of encode
 
-/// What a buffer holds before a call.
-fn old_byte(place: usize) -> u8 {
-    0xa5 ^ place as u8
-}
-
 /// What a call of encode answered, and the buffer after it.
 #[derive(PartialEq)]
 struct Encoded {
@@ -139,7 +129,7 @@ impl fmt::Display for Encoded {
             0 => write!(f, "{} bytes, {} bits, ", self.bytes, self.bits)?,
             number => write!(f, "refused {} with {} bytes and {} bits, ", number, self.bytes, self.bits)?,
         }
-        if !self.buffer.is_empty() && self.buffer.iter().enumerate().all(|(place, &byte)| byte == old_byte(place)) {
+        if as_it_was(&self.buffer, old_byte) {
             write!(f, "buffer as it was")?;
         } else {
             write!(f, "buffer {}", shown(&self.buffer))?;

@@ -3,3 +3,4 @@ pub mod Fills
 pub mod Integers
 pub mod Numbers
 pub mod Unique
+pub mod Table

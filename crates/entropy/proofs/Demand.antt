@@ -18,7 +18,7 @@ use Rattle.bitstream.proofs.BitsLaws.{bits-append, length-bits}
 use Rattle.bitstream.proofs.BytesLaws.{bits-pack, length-pack, stored-payload}
 use Rattle.bitstream.proofs.PlaceLaws.{ended-append, ended-zeros}
 use Rattle.elements.specs.Elements.{size, elementsOf, encode}
-use Rattle.elements.specs.Limits.{most}
+use Rattle.elements.specs.Limits.{most, inRange}
 use Rattle.elements.specs.Decoding.{decode, OutC}
 use Rattle.elements.specs.Limits.{blockLimit}
 use Rattle.elements.specs.Answers.{Decoding, decoding, read, settled, decodeOf, Encoding, encoding, wrote, needs, encodeOf}
@@ -39,6 +39,9 @@ pub record Given (b w : ℕ) (cs : List ℤ) : Type 0 where
 below-small : (w : ℕ) (cs : List ℤ) → w ≤ 29 → Below w cs → Small cs
 below-small w [] h b = tt
 below-small w (c ∷ cs) h b = let p : 2 ^ w ≤ 2 ^ 29 = pow-mono {j = 29} h in let a = b .0 in (omega arith, below-small w cs h (b .1))
+
+pub below-inRange : (w : ℕ) (cs : List ℤ) → w ≤ 29 → Below w cs → inRange cs ≡ true
+below-inRange w cs h b = inRange-small cs (below-small w cs h b)
 
 below-limit : (b w : ℕ) → b ≤ 32 → w ≤ 29 → 8 * b * (2 * w + 5) ≤ 8 * 32 * (2 * 29 + 5)
 below-limit b w hb hw = mul-le-mul {n₁ = 8 * b} {m₁ = 2 * w + 5} {n₂ = 8 * 32} {m₂ = 2 * 29 + 5} (omega arith) (omega arith)
@@ -63,10 +66,14 @@ module _ (b w : ℕ) (cs : List ℤ) (g : Given b w cs) where
       let e : (2 * w + 5) * length cs ≡ 8 * (8 * b * (2 * w + 5)) = ap (λ (n : ℕ). (2 * w + 5) * n) (g .all) ∙ omega arith in
       omega (arith, bits-sum)
 
+  -- and so a payload that decoding takes
+  pub bytes-fit : bytesFor (length (encode b cs)) ≤ payloadLimit
+  bytes-fit = le-trans bytes-le (le-trans (below-limit b w (g .blocks) (g .width)) (omega arith))
+
   -- ---- room
 
   fine : Fine b cs
-  fine = record { few = g .blocks; full = g .all; small = inRange-small cs small }
+  fine = record { few = g .blocks; full = g .all; small = below-inRange w cs (g .width) (g .below) }
 
   -- it is refused exactly if the buffer is shorter than those bytes, which are reported; the buffer is untouched
   pub room-none : (old : List ℕ) → length old < bytesFor (length (encode b cs)) → encodeOf cs b old ≡ encoding (needs (bytesFor (length (encode b cs)))) old
@@ -102,6 +109,5 @@ module _ (b w : ℕ) (cs : List ℤ) (g : Given b w cs) where
       let code : List Bool = encode b cs in
       let first : take (bytesFor (length code)) (encodeOf cs b old .buffer) ≡ pack code ++ replicate 0 0 =
       ap (λ (x : Encoding). take (bytesFor (length code)) (x .buffer)) (room-enough old room) ∙ stored-payload old code ∙ sym (append-nil (pack code)) in
-      let few : bytesFor (length code) ≤ 8 * 32 * (2 * 29 + 5) = le-trans bytes-le (below-limit b w (g .blocks) (g .width)) in
       ap (λ (p : List ℕ). decodeOf p b list) first
-      ∙ bytes-back 0 list (omega (arith, length-append (pack code) (replicate 0 0), length-pack code)) len
+      ∙ bytes-back 0 list (omega (arith, length-append (pack code) (replicate 0 0), length-pack code, bytes-fit)) len

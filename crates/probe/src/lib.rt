@@ -2,3 +2,5 @@
 // document 01's refusal number; the numbers that come back are 0 where a call is refused.
 mod bits; // the bit layer
 mod coefficients; // the scanned coefficient coder
+mod matrices; // weights, block scans, the scale of an index
+mod slices; // the slice coder

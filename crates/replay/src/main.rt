@@ -1,14 +1,13 @@
 // Answers cases from standard input, a line each, on standard output. What it writes is held to a stored file of answers.
 // A line is a letter and the words that the letter asks for, one space before each; a line that has not that form is answered `bad line`.
-// A coder's letters stand in a file of their own, and dispatch() has an arm for each.
+// The crates `cases` and `matrixcases` answer a case; dispatch() has an arm for each letter.
+use cases::bits;
+use cases::coefficients;
 use libc::STDIN_FILENO;
 use libc::STDOUT_FILENO;
 use lines::answer;
 use lines::answer::Answer;
 use lines::text;
-
-mod bits; // r, z, e, p: the bit layer
-mod coefficients; // d, c: the coefficient coder
 
 // The most reads of standard input. Nothing says that an input ends, so they are counted down; at 65,536 bytes each no run uses them up.
 const READS: u32 = 1048576;
@@ -26,6 +25,11 @@ fn dispatch(line: &[u8], payload: &mut [u8], list: &mut [i32]) -> Answer {
         b'p' => bits::put(line, payload),
         b'd' => coefficients::decode(line, payload, list),
         b'c' => coefficients::encode(line, payload, list),
+        b'w' => matrixcases::weights(line, payload),
+        b'b' => matrixcases::blend(line, payload),
+        b's' => matrixcases::scan(line, payload),
+        b'f' => matrixcases::flags(line, payload),
+        b'q' => matrixcases::qscale(line),
         _ => Answer::BadLine,
     }
 }

@@ -1,4 +1,5 @@
 -- `feed` is safe and ends. The line's buffer keeps its length, and the bytes that are left of the part fall.
+-- Assumes nothing.
 use Prim.Native.Nat.{_≤_, _-_}
 use mathlib.Core.Path.{_≡_}
 use lib.ListN.{length}

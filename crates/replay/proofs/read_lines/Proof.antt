@@ -1,4 +1,5 @@
 -- `read_lines` is safe and ends. Both buffers keep their lengths, and the reads that are left fall.
+-- Assumes nothing.
 use Prim.Native.Nat.{_≤_}
 use mathlib.Core.Path.{_≡_}
 use lib.ListN.{length}

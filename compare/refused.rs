@@ -1,0 +1,82 @@
+// Payloads that are refused with a given number. Each number can be had in four ways, of which `way` chooses one.
+use crate::model::MOST;
+use crate::streams::Elements;
+
+/// A payload of two blocks or more that is refused with 5, 6, 7 or 8, or for 0 is good.
+pub fn refused_with(number: u32, blocks: usize, way: usize) -> Vec<u8> {
+    match number {
+        5 => short(blocks, way % 4),
+        6 => bad_codeword(blocks, way % 4),
+        7 => long_run(blocks, way % 4),
+        8 => out_of_range(blocks, way % 4),
+        _ => good(blocks, way % 4),
+    }
+}
+
+/// As many DCs, all 0.
+fn flat(blocks: usize) -> Elements {
+    let mut stream = Elements::new();
+    (0..blocks).for_each(|_| stream.dc(0));
+    stream
+}
+
+fn good(blocks: usize, way: usize) -> Vec<u8> {
+    let mut stream = flat(blocks);
+    (0..way as u32).for_each(|i| stream.pair(3 * i, i, i % 2));
+    stream.bits.finish()
+}
+
+fn short(blocks: usize, way: usize) -> Vec<u8> {
+    let mut stream = flat(blocks);
+    match way {
+        0 => return Vec::new(),
+        1 => return vec![0; 4],
+        // the last DC loses its end
+        2 => {}
+        // a level, whose codeword is longer than what it loses
+        _ => stream.pair(0, MOST as u32, 1),
+    }
+    let mut bytes = stream.bits.finish();
+    bytes.truncate(bytes.len() - if way == 2 { 1 } else { 2 });
+    bytes
+}
+
+/// Too many zeros before the first DC, the last, a run or a level.
+fn bad_codeword(blocks: usize, way: usize) -> Vec<u8> {
+    let mut stream = flat([0, blocks - 1, blocks, blocks][way]);
+    if way == 3 {
+        stream.run(0);
+    }
+    (0..40).for_each(|_| stream.bits.write_bit(0));
+    stream.bits.write_bit(1);
+    stream.bits.finish()
+}
+
+/// A run to just behind the last place, far behind it, or there by a second run.
+fn long_run(blocks: usize, way: usize) -> Vec<u8> {
+    let mut stream = flat(blocks);
+    let places = 63 * blocks as u32;
+    match way {
+        0 => stream.pair(places, 0, 0),
+        1 => stream.pair(u32::MAX, 0, 0),
+        _ => {
+            stream.pair(3, 1, 1);
+            stream.pair(places - 4, 1, way as u32 % 2);
+        }
+    }
+    stream.bits.finish()
+}
+
+/// The first DC, the last, or a level of either sign.
+fn out_of_range(blocks: usize, way: usize) -> Vec<u8> {
+    let mut stream = flat([0, blocks - 1, blocks, blocks][way]);
+    match way {
+        0 => {
+            stream.dc_to(MOST + 1);
+            (1..blocks).for_each(|_| stream.dc(0));
+        }
+        1 => stream.dc_to(-MOST - 1),
+        _ => stream.pair(way as u32, MOST as u32, way as u32 % 2),
+    }
+    stream.bits.finish()
+}

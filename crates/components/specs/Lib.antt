@@ -1,0 +1,4 @@
+pub mod Shapes
+pub mod Encoding
+pub mod Decoding
+pub mod Told

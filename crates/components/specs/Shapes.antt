@@ -1,0 +1,71 @@
+-- The shape of a slice: document 01, "What the cart keeps", "Slice scan" and refusal 13.
+use Prim.Native.Nat.{ℕ, _+_, _*_, _≤_}
+use mathlib.Core.Path.{_≡_}
+use mathlib.Core.Bool.{Bool, true, cond, _&&_, _||_}
+use mathlib.Core.List.{List}
+use lib.Dec.{leb, eqb}
+use lib.IntN.{ℤ}
+use lib.ListN.{length}
+use Rattle.bitstream.specs.Told.{payloadLimit}
+use Rattle.elements.specs.Limits.{inRange}
+
+-- chroma format 2 is 4:2:2 and 3 is 4:4:4; scan 0 is progressive and 1 interlaced
+abbrev pub knownChroma : ℕ → Bool
+knownChroma f = eqb f 2 || eqb f 3
+
+abbrev pub knownScan : ℕ → Bool
+knownScan s = eqb s 0 || eqb s 1
+
+abbrev pub interlaced : ℕ → Bool
+interlaced s = eqb s 1
+
+-- the blocks of Cb, and those of Cr, in a macroblock; Y has 4
+unfoldable pub chromaBlocks : ℕ → ℕ
+chromaBlocks f = cond (eqb f 2) 2 4
+
+-- the blocks of a macroblock with c blocks of each chroma component
+abbrev pub blocksPer : ℕ → ℕ
+blocksPer c = 4 + 2 * c
+
+abbrev pub macroblockLimit : ℕ
+macroblockLimit = 8
+
+abbrev pub inLimit : ℕ → Bool
+inLimit m = leb 1 m && leb m macroblockLimit
+
+-- the coefficients of m macroblocks
+abbrev pub sliceLength : ℕ → ℕ → ℕ
+sliceLength m c = 64 * (m * blocksPer c)
+
+pub record Components (A : Type 0) : Type 0 where
+  pub y : A
+  pub cb : A
+  pub cr : A
+
+-- ---- what the tests of the arguments leave, for the code within
+
+pub record Few (m c : ℕ) : Type 0 where
+  pub some-m : 1 ≤ m
+  pub few-m : m ≤ macroblockLimit
+  pub some-c : 1 ≤ c
+  pub few-c : c ≤ 4
+
+-- blocks to encode
+pub record Shaped (m c : ℕ) (blocks : List ℤ) : Type 0 where
+  pub few : Few m c
+  pub long : length blocks ≡ sliceLength m c
+  pub small : inRange blocks ≡ true
+
+-- lists for the three components
+pub record Parts (m c ny ncb ncr : ℕ) : Type 0 where
+  pub y : ny ≡ 64 * (m * 4)
+  pub cb : ncb ≡ 64 * (m * c)
+  pub cr : ncr ≡ 64 * (m * c)
+
+-- payloads to decode, into a list of n coefficients
+pub record Readable (m c : ℕ) (y cb cr : List ℕ) (n : ℕ) : Type 0 where
+  pub few : Few m c
+  pub fits-y : length y ≤ payloadLimit
+  pub fits-cb : length cb ≤ payloadLimit
+  pub fits-cr : length cr ≤ payloadLimit
+  pub long : n ≡ sliceLength m c

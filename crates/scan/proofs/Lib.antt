@@ -1,0 +1,5 @@
+pub mod TabLaws
+pub mod LaidLaws
+pub mod IndexLaws
+pub mod ScanLaws
+pub mod RoundTrip

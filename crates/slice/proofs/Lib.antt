@@ -1,0 +1,4 @@
+pub mod EncodeLaws
+pub mod DecodeLaws
+pub mod Demand
+pub mod Unique

@@ -1,0 +1,3 @@
+pub mod RangeLaws
+pub mod LaidLaws
+pub mod WrittenLaws

@@ -7,7 +7,7 @@ use native.Mathlib.Nat.{mul-le-mul}
 use native.Mathlib.Omega.{arith}
 use lib.Dec.{leb, ltb, eqb}
 use borrow.Author.Tests.{leb-true, le-ltb, eq-eqb, ne-eqb, eqb-false, not-true, not-false}
-use Rattle.components.specs.Shapes.{knownChroma, knownScan, chromaBlocks, blocksPer, macroblockLimit, inLimit, Few}
+use Rattle.components.specs.Shapes.{knownChroma, knownScan, chromaBlocks, counts, unknown, counted, blocksPer, macroblockLimit, inLimit, Few}
 
 -- ---- the tests
 
@@ -26,6 +26,16 @@ scan-known zero = refl
 scan-known (suc zero) = refl
 scan-known (suc (suc s)) = simp (le-ltb (suc (suc s)) 2 (omega arith), ne-eqb (suc (suc s)) 0 (λ e. omega arith), ne-eqb (suc (suc s)) 1 (λ e. omega arith))
 
+-- ---- a number of blocks
+
+pub counted-known : (f n : ℕ) → knownChroma f ≡ true → counts n ≡ counted f n
+unfolding counted
+counted-known f n h = sym (simp h)
+
+pub counted-unknown : (f n : ℕ) → knownChroma f ≡ false → unknown 13 ≡ counted f n
+unfolding counted
+counted-unknown f n h = sym (simp h)
+
 -- a flag that a branch has tested, negated
 pub off : {r x : Bool} → not r ≡ true → r ≡ x → x ≡ false
 off {r} e p = sym p ∙ not-true r e
@@ -39,7 +49,7 @@ both : (a b : Bool) → a && b ≡ true → (a ≡ true) × (b ≡ true)
 both true b e = (refl, e)
 both false b e = (e, cc)
 
-chroma-few : (f : ℕ) → (1 ≤ chromaBlocks f) × (chromaBlocks f ≤ 4)
+pub chroma-few : (f : ℕ) → (1 ≤ chromaBlocks f) × (chromaBlocks f ≤ 4)
 unfolding chromaBlocks
 chroma-few f = go (eqb f 2)
   where

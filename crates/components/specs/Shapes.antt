@@ -27,6 +27,20 @@ chromaBlocks f = cond (eqb f 2) 2 4
 abbrev pub blocksPer : ℕ → ℕ
 blocksPer c = 4 + 2 * c
 
+-- a number of blocks, or the refusal of an unknown chroma format
+pub data BlocksAnswer : Type 0 where
+  counts : ℕ → BlocksAnswer
+  unknown : ℕ → BlocksAnswer
+
+unfoldable pub counted : ℕ → ℕ → BlocksAnswer
+counted f n = cond (knownChroma f) (counts n) (unknown 13)
+
+abbrev pub chromaBlocksOf : ℕ → BlocksAnswer
+chromaBlocksOf f = counted f (chromaBlocks f)
+
+abbrev pub blocksOf : ℕ → BlocksAnswer
+blocksOf f = counted f (blocksPer (chromaBlocks f))
+
 abbrev pub macroblockLimit : ℕ
 macroblockLimit = 8
 

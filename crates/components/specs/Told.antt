@@ -1,14 +1,20 @@
 -- What the answers of the slice coder say: the component and document 01's number for each case.
 use Prim.Native.Nat.{ℕ}
 use Rattle.bitstream.specs.Told.{numberOf}
-use Rattle.components.specs.Shapes.{Components}
+use Rattle.components.specs.Shapes.{Components, BlocksAnswer, counts, unknown}
 use Rattle.components.specs.Encoding.{Size, EncodeAnswer, wrote, needs, declines}
 use Rattle.components.specs.Decoding.{SliceAnswer, readAll, refuseIn}
+use Rattle.components.specs.declared.Blocks.{Blocks}
+use Rattle.components.specs.declared.Blocks.the-variants.{Count, Refused as NoCount}
 use Rattle.components.specs.declared.Code.{Code}
 use Rattle.components.specs.declared.EncodedSlice.{EncodedSlice}
 use Rattle.components.specs.declared.EncodedSlice.the-variants.{Done, Room, Refused}
 use Rattle.components.specs.declared.DecodedSlice.{DecodedSlice}
 use Rattle.components.specs.declared.DecodedSlice.the-variants.{Done as Read, Refused as NotRead, Y, Cb, Cr}
+
+abbrev pub toldBlocks : Blocks → BlocksAnswer
+toldBlocks (Count n) = counts n
+toldBlocks (NoCount r) = unknown (numberOf r)
 
 abbrev pub size : Code → Size
 size c = record { bytes = c .bytes; bits = c .bits }

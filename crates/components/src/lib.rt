@@ -2,11 +2,15 @@
 // arguments that encoding and decoding share.
 ghost use mathlib.Core.Path.{_≡_};
 ghost use mathlib.Core.Bool.{_&&_};
-ghost use Rattle.components.specs.Shapes.{knownChroma, knownScan, chromaBlocks, inLimit};
+ghost use Rattle.components.specs.Shapes.{knownChroma, knownScan, chromaBlocks, inLimit, chromaBlocksOf, blocksOf};
+ghost use Rattle.components.specs.Told.{toldBlocks};
 use bitstream::Refusal;
 
 // The most macroblocks of a slice.
 pub const MAX_MBS_PER_SLICE: usize = 8;
+
+// The blocks of Y in a macroblock.
+pub const LUMA_BLOCKS_PER_MB: usize = 4;
 
 // A component's code: its bytes, and its bits before the padding.
 pub struct Code {
@@ -51,8 +55,34 @@ pub fn known(chroma: usize, scan: usize) -> bool
 pub fn in_limit(macroblocks: usize) -> bool
     ensures { λ r. ⌜ r ≡ inLimit macroblocks ⌝ }
 {
-    match macroblocks {
-        1..=8 => true,
-        _ => false,
+    if macroblocks < 1 {
+        return false;
+    }
+    macroblocks <= MAX_MBS_PER_SLICE
+}
+
+// A number of blocks, or an unknown chroma format (refusal 13).
+pub enum Blocks {
+    Count(usize),
+    Refused(Refusal),
+}
+
+// The blocks of Cb, and those of Cr, in a macroblock.
+pub fn chroma_blocks_per_mb(chroma: usize) -> Blocks
+    ensures { λ r. ⌜ toldBlocks r ≡ chromaBlocksOf chroma ⌝ }
+{
+    match chroma {
+        2..=3 => Blocks::Count(chroma_blocks(chroma)),
+        _ => Blocks::Refused(Refusal::Selector),
+    }
+}
+
+// The blocks of a macroblock.
+pub fn blocks_per_mb(chroma: usize) -> Blocks
+    ensures { λ r. ⌜ toldBlocks r ≡ blocksOf chroma ⌝ }
+{
+    match chroma {
+        2..=3 => Blocks::Count(LUMA_BLOCKS_PER_MB + 2 * chroma_blocks(chroma)),
+        _ => Blocks::Refused(Refusal::Selector),
     }
 }

@@ -1,4 +1,4 @@
--- `slice::chroma_blocks` meets its contract.
+-- `components::chroma_blocks` meets its contract.
 -- Assumes nothing.
 use mathlib.Core.Path.{sym}
 use borrow.Author.Tests.{eq-eqb, ne-eqb}

@@ -1,4 +1,4 @@
--- `slice::known` meets its contract.
+-- `components::known` meets its contract.
 -- Assumes nothing.
 use mathlib.Core.Path.{sym, ap, _∙_}
 use mathlib.Core.Bool.{Bool, _&&_}

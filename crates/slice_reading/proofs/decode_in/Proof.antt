@@ -1,4 +1,4 @@
--- `slice::decode::decode_in` meets its contract: the first zeros of a list are as many as its component has coefficients.
+-- `slice_reading::decode_in` meets its contract: the first zeros of a list are as many as its component has coefficients.
 -- Assumes nothing.
 use Prim.Native.Nat.{ℕ, _*_, _≤_}
 use native.Mathlib.Omega.{arith}

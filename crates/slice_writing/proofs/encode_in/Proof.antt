@@ -1,4 +1,4 @@
--- `slice::encode::encode_in` meets its contract: the lists are cut to the lengths of their components.
+-- `slice_writing::encode_in` meets its contract: the lists are cut to the lengths of their components.
 -- Assumes nothing.
 use Prim.Native.Nat.{ℕ, _-_, _≤_}
 use mathlib.Core.Path.{_≡_}

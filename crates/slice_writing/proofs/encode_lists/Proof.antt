@@ -1,4 +1,4 @@
--- `slice::encode::encode_lists` meets its contract: no room, or three codes one after another.
+-- `slice_writing::encode_lists` meets its contract: no room, or three codes one after another.
 -- Assumes nothing.
 use mathlib.Core.Bool.{Bool}
 use mathlib.Core.List.{List}

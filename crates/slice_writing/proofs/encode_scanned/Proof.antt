@@ -1,4 +1,4 @@
--- `slice::encode::encode_scanned` meets its contract: the three lists are the scanned ones.
+-- `slice_writing::encode_scanned` meets its contract: the three lists are the scanned ones.
 -- Assumes nothing.
 use Prim.Native.Nat.{_+_}
 use native.Mathlib.Nat.{le-refl}

@@ -1,4 +1,4 @@
--- `slice::encode::write_from` meets its contract: the part of the buffer that was lent comes back.
+-- `slice_writing::write_from` meets its contract: the part of the buffer that was lent comes back.
 -- Assumes nothing.
 use borrow.Author.Needs.{needs}
 use Rattle.slice_writing.proofs.LaidLaws.{from-part}

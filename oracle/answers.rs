@@ -23,6 +23,12 @@ mod model;
 #[path = "../compare/random.rs"]
 mod random;
 mod refusal;
+#[path = "../compare/refused.rs"]
+mod refused;
+#[path = "../compare/shape.rs"]
+mod shape;
+mod slice_cases;
+mod slice_model;
 #[path = "../compare/streams.rs"]
 mod streams;
 use random::Random;
@@ -306,6 +312,7 @@ fn main() {
         match coder.as_str() {
             "coefficients" => coefficients::add_to(&mut stored),
             "matrices" => matrices::add_to(&mut stored),
+            "slices" => slice_cases::add_to(&mut stored),
             _ => panic!("there are no cases of {}", coder),
         }
     }

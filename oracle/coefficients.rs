@@ -15,12 +15,12 @@ use crate::{hex, Stored, SEED};
 
 /// What `replay` takes.
 const MOST_LENGTH: usize = 2_112;
-const MOST_ROOM: usize = 4_096;
+pub const MOST_ROOM: usize = 4_096;
 /// What a buffer of `replay` holds before the call.
-const OLD: u8 = 0xa5;
+pub const OLD: u8 = 0xa5;
 
 /// A list by the places that are not 0.
-type Set<'a> = &'a [(usize, i32)];
+pub type Set<'a> = &'a [(usize, i32)];
 
 pub fn add_to(stored: &mut Stored) {
     table(stored);
@@ -108,18 +108,18 @@ fn coded(blocks: usize, list: &[i32], room: usize) -> String {
     format!("{} {} {}", needed, bits_written(), hex(&bytes))
 }
 
-fn list_of(length: usize, set: Set<'_>) -> Vec<i32> {
+pub fn list_of(length: usize, set: Set<'_>) -> Vec<i32> {
     let mut list = vec![0; length];
     set.iter().for_each(|&(place, value)| list[place] = value);
     list
 }
 
-fn set_of(list: &[i32]) -> Vec<(usize, i32)> {
+pub fn set_of(list: &[i32]) -> Vec<(usize, i32)> {
     list.iter().copied().enumerate().filter(|&(_, value)| value != 0).collect()
 }
 
 /// The places that are not 0, each with a space before it.
-fn places(list: &[i32]) -> String {
+pub fn places(list: &[i32]) -> String {
     set_of(list).iter().map(|(place, value)| format!(" {}:{}", place, value)).collect()
 }
 
@@ -360,7 +360,7 @@ fn random_cases(stored: &mut Stored) {
 }
 
 /// Up to 12 coefficients that are not 0, a quarter of them DCs, of small and large widths.
-fn random_list(random: &mut Random, blocks: usize) -> Vec<i32> {
+pub fn random_list(random: &mut Random, blocks: usize) -> Vec<i32> {
     let width = random.pick(&[2, 4, 6, 11, 29]);
     let mut list = vec![0; 64 * blocks];
     for _ in 0..random.below(13) {

@@ -7,7 +7,6 @@ use Prim.Native.Nat.{ℕ, _+_, _*_}
 use lib.Dec.{eqb}
 use lib.ListN.{drop}
 use Rattle.bitstream.specs.Bits.{field, bitsOf, ended}
-use Rattle.bitstream.specs.Bytes.{bytesFor, putAt}
 use Rattle.bitstream.specs.Reading.{readBits, zeroPrefix}
 use Rattle.bitstream.specs.Told.{numberOf, Outcome, gives, refusal, told, outcomeAt}
 use Rattle.bitstream.specs.declared.Cursor.{Cursor}
@@ -56,8 +55,6 @@ answerOf-told (No r) = ap No (refusalOf-number r)
 pub told-once : (x : Outcome) {r r′ : Read} → told r ≡ x → told r′ ≡ x → r ≡ r′
 told-once x {r} {r′} e f = sym (answerOf-told r) ∙ ap answerOf (e ∙ sym f) ∙ answerOf-told r′
 
--- ---- reading
-
 pub number-unique : (w : Refusal) (r r′ : ℕ) → r ≡ numberOf w → r′ ≡ numberOf w → r ≡ r′
 number-unique w r r′ e f = e ∙ sym f
 
@@ -75,12 +72,3 @@ zero-prefix-unique cap s p r r′ = told-once (outcomeAt (zeroPrefix cap) s p)
 
 pub end-of-data-unique : (s : List ℕ) (p : ℕ) (r r′ : Bool) → r ≡ ended (drop p (bitsOf s)) → r′ ≡ ended (drop p (bitsOf s)) → r ≡ r′
 end-of-data-unique s p r r′ e f = e ∙ sym f
-
--- ---- writing
-
-pub put-unique : (buf : List ℕ) (p n v r r′ : ℕ) (b b′ : List ℕ) → r ≡ p + n → r′ ≡ p + n → b ≡ putAt buf p (field n v) → b′ ≡ putAt buf p (field n v)
-    → (r ≡ r′) × (b ≡ b′)
-put-unique buf p n v r r′ b b′ e f g h = (e ∙ sym f, g ∙ sym h)
-
-pub align-byte-unique : (p r r′ : ℕ) → r ≡ 8 * bytesFor p → r′ ≡ 8 * bytesFor p → r ≡ r′
-align-byte-unique p r r′ e f = e ∙ sym f

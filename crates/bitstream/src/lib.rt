@@ -1,15 +1,13 @@
 // The bit layer: document 01, section Bits, and the limit on a payload. Reading goes by a slice and a Cursor by value, as the Rust's BitReader
-// does by itself; writing goes into a lent buffer at a bit position.
+// does by itself; writing is in bitwriter.
 ghost use mathlib.Core.Path.{_≡_};
 ghost use Prim.Native.Nat.{_+_, _*_, _/_, _^_, _≤_, _<_};
 ghost use lib.ListN.{length, drop};
 ghost use Rattle.bitstream.specs.Bits.{field, bitsOf, ended};
-ghost use Rattle.bitstream.specs.Bytes.{putAt, bytesFor};
 ghost use Rattle.bitstream.specs.Reading.{readBits, zeroPrefix};
 ghost use Rattle.bitstream.specs.Told.{payloadLimit, numberOf, told, outcome, outcomeAt};
 
 mod fields; // a bit, a field, the bytes that are left
-mod bytes; // whole bytes into a buffer
 
 // The most bytes that a payload to decode may have.
 pub const PAYLOAD_LIMIT: usize = 65536;
@@ -142,24 +140,4 @@ impl Cursor {
         }
         fields::zero_from(payload, i + 1)
     }
-}
-
-// Puts the n low bits of v at bit `at`, with zero bits behind them up to a byte, and gives the next position.
-pub fn put(buf: &mut [u8], at: usize, n: u32, v: u64) -> usize
-    requires { ⌜ (n ≤ 56) × (at + n ≤ 8 * length (now buf)) × (at + n < 2 ^ 63) ⌝ }
-    ensures next { λ r. ⌜ r ≡ at + n ⌝ }
-    ensures buffer { λ _. ⌜ now (buf .exit) ≡ putAt (now (buf .entry)) at (field n v) ⌝ }
-{
-    let begun = bytes::begun(buf, at);
-    let word = begun * common::pow2(n) + v % common::pow2(n);
-    bytes::emit(buf, at / 8, word, (at % 8) as u32 + n);
-    at + n as usize
-}
-
-// The next position at a byte's start. The zero bits up to it are there already, so nothing is written.
-pub fn align_byte(at: usize) -> usize
-    requires { ⌜ at < 2 ^ 63 ⌝ }
-    ensures { λ r. ⌜ r ≡ 8 * bytesFor at ⌝ }
-{
-    (at + 7) / 8 * 8
 }

@@ -86,7 +86,7 @@ pub fn end_of_data(line: &[u8], payload: &mut [u8]) -> Answer
     Answer::Number(0)
 }
 
-// What bitstream::put requires of its caller is tested here, in the order of the refusals' numbers.
+// What bitwriter::put requires of its caller is tested here, in the order of the refusals' numbers.
 fn put_field(buf: &mut [u8], at: u64, n: u64, v: u64) -> Answer
     ensures { λ r. ⌜ AnswersBuffer r ⌝ }
 {
@@ -104,7 +104,7 @@ fn put_field(buf: &mut [u8], at: u64, n: u64, v: u64) -> Answer
         return Answer::Refused(3);
     }
     Answer::Buffer {
-        next: bitstream::put(buf, at as usize, n as u32, v) as u64,
+        next: bitwriter::put(buf, at as usize, n as u32, v) as u64,
         len: buf.len(),
     }
 }

@@ -19,13 +19,13 @@ use lines::text::Bytes;
 use lines::text::Number;
 
 // The longest list: the coefficients of 33 blocks, one more than may be coded.
-const LIST_LIMIT: usize = 2112;
+const LIST_LIMIT: u64 = 2112;
 
 // The largest buffer, and the longest payload.
 const ROOM_LIMIT: usize = 4096;
 
 // What stands in a list, and in a buffer, before a call, so that a store is seen.
-const OLD_COEFFICIENT: i32 = 7;
+pub const OLD_COEFFICIENT: i32 = 7;
 
 const OLD_BYTE: u8 = 0xa5;
 
@@ -39,19 +39,13 @@ enum Sizes {
     Bad,
 }
 
-pub fn list() -> [i32; LIST_LIMIT]
-    ensures { λ r. ⌜ 2112 ≡ length r ⌝ }
-{
-    [OLD_COEFFICIENT; LIST_LIMIT]
-}
-
 pub fn buffer() -> [u8; ROOM_LIMIT]
     ensures { λ r. ⌜ 4096 ≡ length r ⌝ }
 {
     [OLD_BYTE; ROOM_LIMIT]
 }
 
-fn zero(list: &mut [i32]) {
+pub fn zero(list: &mut [i32]) {
     let mut i: usize = 0;
     while i < list.len() {
         list[i] = 0;
@@ -83,7 +77,7 @@ fn filled_bytes(buf: &[u8], value: u8) -> bool {
 }
 
 // What a refused decode left. An empty list counts as kept, since only a refusal of the arguments can meet one.
-fn left_of_list(list: &[i32]) -> Left {
+pub fn left_of_list(list: &[i32]) -> Left {
     if filled(list, OLD_COEFFICIENT) {
         return Left::Kept;
     }
@@ -93,22 +87,22 @@ fn left_of_list(list: &[i32]) -> Left {
     Left::Mixed
 }
 
-fn left_of_buffer(buf: &[u8]) -> Left {
+pub fn left_of_buffer(buf: &[u8]) -> Left {
     if filled_bytes(buf, OLD_BYTE) {
         return Left::Kept;
     }
     Left::Touched
 }
 
-// The words BLOCKS and LEN; a LEN above most is bad.
-fn read_sizes(line: &[u8], most: usize) -> Sizes {
+// The words BLOCKS and LEN; a LEN above the longest list's is bad.
+fn read_sizes(line: &[u8]) -> Sizes {
     let Number::Is(blocks, blocks_end) = text::read_decimal(line, 1) else {
         return Sizes::Bad;
     };
     let Number::Is(len, end) = text::read_decimal(line, blocks_end) else {
         return Sizes::Bad;
     };
-    if (most as u64) < len {
+    if LIST_LIMIT < len {
         return Sizes::Bad;
     }
     Sizes::Are {
@@ -118,7 +112,7 @@ fn read_sizes(line: &[u8], most: usize) -> Sizes {
     }
 }
 
-// The list is as list() made it.
+// Every coefficient of the list is the old one.
 fn decode_into(payload: &[u8], blocks: usize, list: &mut [i32]) -> Answer
     ensures { λ r. ⌜ AnswersDecode r ⌝ }
 {
@@ -135,7 +129,7 @@ fn decode_into(payload: &[u8], blocks: usize, list: &mut [i32]) -> Answer
 pub fn decode(line: &[u8], payload: &mut [u8], list: &mut [i32]) -> Answer
     ensures { λ r. ⌜ AnswersDecode r ⌝ }
 {
-    let Sizes::Are { blocks, len, end } = read_sizes(line, list.len()) else {
+    let Sizes::Are { blocks, len, end } = read_sizes(line) else {
         return Answer::BadLine;
     };
     let Bytes::Are(bytes) = text::read_hex(line, end, payload) else {
@@ -150,7 +144,7 @@ pub fn decode(line: &[u8], payload: &mut [u8], list: &mut [i32]) -> Answer
 
 // Stores the entries that the words from a position on name. False where a word is no entry, or its place is not above the last one or not
 // in the list.
-fn store_entries(line: &[u8], from: usize, list: &mut [i32]) -> bool {
+pub fn store_entries(line: &[u8], from: usize, list: &mut [i32]) -> bool {
     let mut at = from;
     let mut least: usize = 0;
     while at < line.len() {
@@ -200,7 +194,7 @@ fn encode_into(line: &[u8], from: usize, blocks: usize, list: &mut [i32], buf: &
 pub fn encode(line: &[u8], payload: &mut [u8], list: &mut [i32]) -> Answer
     ensures { λ r. ⌜ AnswersEncode r ⌝ }
 {
-    let Sizes::Are { blocks, len, end } = read_sizes(line, list.len()) else {
+    let Sizes::Are { blocks, len, end } = read_sizes(line) else {
         return Answer::BadLine;
     };
     let Number::Is(room, room_end) = text::read_decimal(line, end) else {

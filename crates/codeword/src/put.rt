@@ -12,8 +12,8 @@ pub fn put_word(buf: &mut [u8], at: usize, len: u32, bits: u64) -> usize
     ensures buffer { λ _. ⌜ now (buf .exit) ≡ putAt (now (buf .entry)) at (field len bits) ⌝ }
 {
     if len <= 56 {
-        return bitstream::put(buf, at, len, bits);
+        return bitwriter::put(buf, at, len, bits);
     }
-    let mid = bitstream::put(buf, at, len - 34, 0);
-    bitstream::put(buf, mid, 34, bits)
+    let mid = bitwriter::put(buf, at, len - 34, 0);
+    bitwriter::put(buf, mid, 34, bits)
 }

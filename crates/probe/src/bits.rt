@@ -117,7 +117,7 @@ pub extern "C" fn probe_put(buf: &mut [u8], at: usize, n: u32, v: u64, next: &mu
     if room - at < n as usize {
         return 3;
     }
-    *next = bitstream::put(buf, at, n, v);
+    *next = bitwriter::put(buf, at, n, v);
     0
 }
 
@@ -130,6 +130,6 @@ pub extern "C" fn probe_align_byte(at: usize, next: &mut usize) -> u32
     if 8 * bitstream::PAYLOAD_LIMIT < at {
         return 1;
     }
-    *next = bitstream::align_byte(at);
+    *next = bitwriter::align_byte(at);
     0
 }

@@ -1,6 +1,6 @@
 // Answers cases from standard input, a line each, on standard output. What it writes is held to a stored file of answers.
 // A line is a letter and the words that the letter asks for, one space before each; a line that has not that form is answered `bad line`.
-// The crates `cases` and `matrixcases` answer a case; dispatch() has an arm for each letter.
+// The crates `cases`, `matrixcases` and `slicecases` answer a case; dispatch() has an arm for each letter.
 use cases::bits;
 use cases::coefficients;
 use libc::STDIN_FILENO;
@@ -30,6 +30,8 @@ fn dispatch(line: &[u8], payload: &mut [u8], list: &mut [i32]) -> Answer {
         b's' => matrixcases::scan(line, payload),
         b'f' => matrixcases::flags(line, payload),
         b'q' => matrixcases::qscale(line),
+        b'u' => slicecases::decode(line, payload, list),
+        b'k' => slicecases::encode(line, payload, list),
         _ => Answer::BadLine,
     }
 }
@@ -55,7 +57,7 @@ fn answer_to(line: &[u8], len: usize, payload: &mut [u8], list: &mut [i32]) -> A
 // Each case has a payload and a list of its own, as they are before a call. Every answer fits into io::large_buffer().
 fn answer_line(line: &[u8], len: usize) {
     let mut payload = coefficients::buffer();
-    let mut list = coefficients::list();
+    let mut list = slicecases::list();
     let mut out = io::large_buffer();
     let given = answer_to(line, len, &mut payload, &mut list);
     let written = answer::write(given, &payload, &list, &mut out);

@@ -203,7 +203,7 @@ fn put_pair(out: &mut [u8], at: usize, run: Word, level: Word) -> usize
 {
     let len = run.len + level.len;
     if len <= 56 {
-        return bitstream::put(
+        return bitwriter::put(
             out,
             at,
             len,

@@ -1,4 +1,4 @@
--- `bitstream::bytes::emit` meets its contract. The loop's invariant: what is still to be written, written into the buffer as it is, gives the
+-- `bitwriter::bytes::emit` meets its contract. The loop's invariant: what is still to be written, written into the buffer as it is, gives the
 -- contract's buffer. The measure is how many bits are left.
 -- Assumes nothing.
 use mathlib.Core.Path.{_≡_, refl, sym, ap, _∙_}
@@ -6,12 +6,12 @@ use mathlib.Core.List.{List}
 use Prim.Native.Nat.{ℕ, _+_, _-_, _*_, _/_, _%_, _^_, _≤_}
 use native.Mathlib.Omega.{arith}
 use lib.ListN.{length, set}
 use Rattle.bitstream.specs.Bits.{field}
 use Rattle.bitstream.specs.Puts.{storedFrom}
 use Rattle.bitstream.proofs.FieldLaws.{field-split}
 use Rattle.bitstream.proofs.PutLaws.{from-none, from-byte, from-last}
-use Rattle.bitstream.proofs.bytes.emit.Statement.{statement}
-use Rattle.bitstream.proofs.bytes.emit.Tie as tie
+use Rattle.bitwriter.proofs.bytes.emit.Statement.{statement}
+use Rattle.bitwriter.proofs.bytes.emit.Tie as tie
 
 abbrev Inv-loop : tie.InvT-loop
 Inv-loop buf₀ i word n j₀ left₀ buf j left =

@@ -1,11 +1,11 @@
--- `bitstream::bytes::begun` meets its contract: the bits are the byte's high ones, by a shift, and none at a byte's start.
+-- `bitwriter::bytes::begun` meets its contract: the bits are the byte's high ones, by a shift, and none at a byte's start.
 -- Assumes nothing.
 use Prim.Native.Nat.{_/_}
 use native.Mathlib.Omega.{arith}
 use borrow.Author.Needs.{needs}
 use Rattle.bitstream.proofs.PutLaws.{begun-none, begun-shift}
-use Rattle.bitstream.proofs.bytes.begun.Statement.{statement}
-use Rattle.bitstream.proofs.bytes.begun.Tie as tie
+use Rattle.bitwriter.proofs.bytes.begun.Statement.{statement}
+use Rattle.bitwriter.proofs.bytes.begun.Tie as tie
 
 returns : tie.Need-returns
 returns c = begun-none (c .before .args .buf .now) (c .before .args .at) (omega arith)

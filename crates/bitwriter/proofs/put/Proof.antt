@@ -1,12 +1,12 @@
--- `bitstream::put` meets its contract: the bits begun and the field are one word, which goes in from the byte begun on.
+-- `bitwriter::put` meets its contract: the bits begun and the field are one word, which goes in from the byte begun on.
 -- Assumes nothing.
 use mathlib.Core.Path.{refl, sym, _∙_}
 use native.Mathlib.Omega.{arith}
 use lib.Pow.{pow-pos}
 use Rattle.bitstream.proofs.PutLaws.{word-lt, put-word}
 use borrow.Author.Needs.{needs}
-use Rattle.bitstream.proofs.put.Statement.{statement}
-use Rattle.bitstream.proofs.put.Tie as tie
+use Rattle.bitwriter.proofs.put.Statement.{statement}
+use Rattle.bitwriter.proofs.put.Tie as tie
 
 begun-requires : tie.Need-begun-requires
 begun-requires c κs = search needs

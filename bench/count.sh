@@ -1,8 +1,8 @@
 #!/bin/sh
-# bench/count.sh: instructions of the coefficient coder and of whole slices by valgrind's cachegrind, as a
-# ratio of the proved code to the Rust over its own bitstream.rs and over the plain bit layer. Unlike times
-# they repeat, on a busy machine too; they are a machine's own, and not its time. Needs target/bench/bench
-# (bench/run.sh).
+# bench/count.sh: instructions of the coefficient coder, of whole slices and of alpha by valgrind's
+# cachegrind, as a ratio of the proved code to the Rust over its own bitstream.rs and over the plain bit
+# layer, and of the C face to the proved code. Unlike times they repeat, on a busy machine too; they are a
+# machine's own, and not its time. Needs target/bench/bench (bench/run.sh).
 set -eu
 cd "$(dirname "$0")/.."
 command -v valgrind >/dev/null || { echo "count: valgrind is not here, so no instructions are counted"; exit; }
@@ -42,8 +42,9 @@ count() { # CODER WHAT..
         proved=$(round "$coder" "$what" proved)
         rust=$(round "$coder" "$what" rust)
         plain=$(round "$coder" "$what" plain)
-        echo "$what: instructions a round: proved $proved, Rust $rust, over plain bits $plain;" \
-            "proved / Rust $(ratio "$proved" "$rust"), over plain bits $(ratio "$proved" "$plain")"
+        face=$(round "$coder" "$what" face)
+        echo "$what: instructions a round: proved $proved, Rust $rust, over plain bits $plain, C face $face;" \
+            "proved / Rust $(ratio "$proved" "$rust"), over plain bits $(ratio "$proved" "$plain"), C face / proved $(ratio "$face" "$proved")"
     done
 }
 
@@ -51,3 +52,5 @@ count coefficients 'decode real' 'decode dense' 'decode sparse' \
     'encode real' 'encode real, room to the byte' 'encode dense' 'encode sparse'
 count whole_slices 'decode real slices' 'decode dense slices' 'decode sparse slices' \
     'encode real slices' 'encode real slices, room to the byte' 'encode dense slices' 'encode sparse slices'
+count alpha 'decode real alpha' 'decode flat alpha' 'decode gradient alpha' 'decode noise alpha' \
+    'encode real alpha' 'encode real alpha, room to the byte' 'encode flat alpha' 'encode gradient alpha' 'encode noise alpha'

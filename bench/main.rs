@@ -1,14 +1,26 @@
-// bench [ROUNDS [CODER WHAT SIDE]]: the proved code against the Rust over its own bitstream.rs, and where
-// told also over the plain bit layer, in one process.
+// bench [ROUNDS [CODER [WHAT SIDE]]]: the proved code against the Rust over its own bitstream.rs, and where
+// told also over the plain bit layer and against itself over the C face, in one process.
 //
 // The sides take turns, round after round, and the best round of each counts, so that what else the
 // machine does hits all alike. Each coder has its file, which checks that all sides give equal answers
-// before it times them. With a coder, one of its races and a side (proved, rust, plain), that side alone
-// runs, untimed: bench/count.sh counts its instructions.
+// before it times them. With a coder its races alone are timed. With one of them and a side (proved, rust,
+// plain, face), that side alone runs, untimed: bench/count.sh counts its instructions.
 use std::cell::Cell;
 use std::time::Instant;
 
 // shared with the comparison, which uses more of them
+#[path = "../oracle/alpha_model.rs"]
+#[allow(dead_code)]
+mod alpha_model;
+#[path = "../compare/cart.rs"]
+mod cart;
+#[path = "../compare/cart_alpha.rs"]
+mod cart_alpha;
+#[path = "../compare/cart_bytes.rs"]
+#[allow(dead_code)]
+mod cart_bytes;
+#[path = "../compare/cart_slices.rs"]
+mod cart_slices;
 #[path = "../compare/json.rs"]
 #[allow(dead_code)]
 mod json;
@@ -21,12 +33,19 @@ mod model;
 #[path = "../compare/probe.rs"]
 #[allow(dead_code)]
 mod probe;
+#[path = "../compare/probe_alpha.rs"]
+mod probe_alpha;
 #[path = "../compare/probe_slices.rs"]
 #[allow(dead_code)]
 mod probe_slices;
 #[path = "../compare/random.rs"]
 #[allow(dead_code)]
 mod random;
+#[path = "../oracle/refusal.rs"]
+mod refusal;
+#[path = "../compare/samples.rs"]
+#[allow(dead_code)]
+mod samples;
 #[path = "../compare/shape.rs"]
 mod shape;
 #[path = "../oracle/slice_model.rs"]
@@ -49,10 +68,11 @@ coders! {
     bits
     coefficients
     whole_slices
+    alpha
 }
 
 /// The sides of a race in their order; a race may have the first two alone.
-const SIDES: [&str; 3] = ["proved", "rust", "plain"];
+const SIDES: [&str; 4] = ["proved", "rust", "plain", "face"];
 
 pub struct Plan {
     rounds: u32,
@@ -87,7 +107,7 @@ impl Plan {
         }
         let each = 1e9 / things as f64;
         print!("{:44} proved {:7.2} ns", what, best[0] * each);
-        for (name, time) in ["Rust", "Rust over plain bits"].iter().zip(&best[1..]) {
+        for (name, time) in ["Rust", "Rust over plain bits", "C face"].iter().zip(&best[1..]) {
             print!(", {} {:7.2} ns, proved / it {:.2}", name, time * each, best[0] / time);
         }
         println!();
@@ -97,12 +117,13 @@ impl Plan {
 fn main() {
     let words: Vec<String> = std::env::args().skip(1).collect();
     let usage = || -> ! {
-        eprintln!("usage: bench [ROUNDS [CODER WHAT SIDE]], SIDE proved, rust or plain");
+        eprintln!("usage: bench [ROUNDS [CODER [WHAT SIDE]]], SIDE proved, rust, plain or face");
         std::process::exit(2);
     };
     let rounds = words.first().map_or(Ok(7), |word| word.parse()).unwrap_or_else(|_| usage());
     let (coder, alone) = match words.len() {
         0 | 1 => (None, None),
+        2 => (Some(&words[1]), None),
         4 => {
             let side = SIDES.iter().position(|side| *side == words[3]).unwrap_or_else(|| usage());
             (Some(&words[1]), Some((words[2].clone(), side)))

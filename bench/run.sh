@@ -1,11 +1,12 @@
 #!/bin/sh
 # bench/run.sh [ROUNDS]: times the proved code, linked natively, against the Rust over its own bitstream.rs
-# and over the plain bit layer; then counts instructions, where valgrind is there. Proves and builds all
-# that it needs first. Both sides are optimised. Times are no verdict, so the gate does not run it.
+# and over the plain bit layer, and against itself over the C face; then counts instructions, where valgrind
+# is there. Proves and builds all that it needs first. Both sides are optimised. Times are no verdict, so the
+# gate does not run it.
 set -eu
 cd "$(dirname "$0")/.."
 # the proved archives that the benchmark calls
-archives=probe
+archives='probe cart'
 for kind in plain real; do oracle/build.sh "$kind" release; done
 mkdir -p target/bench
 for name in $archives; do compare/native.sh "$name" >target/bench/log 2>&1 || { cat target/bench/log; exit 1; }; done

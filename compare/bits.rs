@@ -4,7 +4,8 @@
 // laid down here by the rules, and the rest of every answer is the Rust's own.
 use std::fmt;
 
-use crate::cases::{every, random_bytes, random_place, shown, Lent, LIMIT};
+use crate::cases::{every, random_bytes, random_place, LIMIT};
+use crate::lent::{shown, Lent};
 use crate::oracles::{plain, real, Layer};
 use crate::probe::{self, Told};
 use crate::random::Random;

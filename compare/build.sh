@@ -5,12 +5,13 @@
 #   PROGRAM  driver        compares the proved code with the oracles; links target/native/libNAME.a
 #            vectors       tries the proved code on real slices, which needs no oracle; only release
 #            oracle_check  tries the oracles alone on document 01's table
+#            sample        runs the sample program; only release
 #   FORM     release, checked (oracle/build.sh)
 set -eu
 cd "$(dirname "$0")/.."
 
-# the proved archives that the driver and vectors call
-archives=probe
+# the proved archives that the driver and vectors call; what they have in common is local to each
+archives='probe cart'
 
 build() { # PROGRAM FORM
     program=$1 form=$2 result=target/compare/$1
@@ -22,7 +23,8 @@ build() { # PROGRAM FORM
     driver) main=compare/main.rs needs='oracles archives' ;;
     vectors) main=compare/vectors.rs needs=archives ;;
     oracle_check) main=compare/oracle_check.rs needs=oracles ;;
-    *) echo "compare: the program is driver, vectors or oracle_check, not $program" >&2; exit 2 ;;
+    sample) main=compare/sample.rs needs=oracles ;;
+    *) echo "compare: the program is driver, vectors, oracle_check or sample, not $program" >&2; exit 2 ;;
     esac
     for need in $needs; do
         case $need in
@@ -52,8 +54,8 @@ build() { # PROGRAM FORM
 case $# in
 0)
     for program in oracle_check driver; do for form in release checked; do build "$program" "$form"; done; done
-    build vectors release
+    for program in vectors sample; do build "$program" release; done
     ;;
 2) build "$1" "$2" ;;
-*) echo "usage: compare/build.sh [driver|vectors|oracle_check release|checked]" >&2; exit 2 ;;
+*) echo "usage: compare/build.sh [driver|vectors|oracle_check|sample release|checked]" >&2; exit 2 ;;
 esac

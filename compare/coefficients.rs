@@ -1,5 +1,6 @@
 // The scanned coefficient coder: decode and encode of the crate `probe` on every small input, on every edge of
-// a rule and on random inputs, good and bad. face.rs makes each call and judges it.
+// a rule and on random inputs, good and bad. face.rs makes each call and judges it, and cart.rs a sample of them over
+// the C face.
 use crate::cases::every;
 use crate::lists::{list, random_blocks, random_list, KINDS, OUT_OF_RANGE};
 use crate::model::{MOST, MOST_BLOCKS, MOST_BYTES};
@@ -8,6 +9,7 @@ use crate::report::Report;
 use crate::streams::{every_state, lead_to, random_payload, EDGES};
 use crate::Run;
 
+mod cart;
 mod face;
 use face::Face;
 
@@ -21,6 +23,7 @@ pub fn run(run: &Run, report: &mut Report) {
     every_book(&mut face);
     every_width(&mut face, random);
     every_encode_argument(&mut face);
+    face.cart.every_own_argument();
     random_cases(&mut face, random, run.cases);
     face.close(report);
 }

@@ -3,12 +3,24 @@
 // Each coder has every small input tried, then CASES random ones, or a fixed share of them where one case is
 // the work of many; SEED repeats a run. Of the inputs that are too many for every run, each STEPth is
 // tried. Everything is asked three times: of the proved code, of the Rust over the plain bit layer, which
-// decides, and of the Rust over its own bitstream.rs, from which only the listed difference is allowed.
+// decides, and of the Rust over its own bitstream.rs, from which only the listed difference is allowed. A sample
+// is asked once more over the C face, which must do what the proved code did (cart_check.rs).
 // The last line counts checks, not cases: one for each function and oracle, and one for each answer that
 // must have been met, so that a run that never came by a refusal does not pass for one that tried it.
 use std::time::Instant;
 
+#[path = "../oracle/alpha_model.rs"]
+mod alpha_model;
+mod cart;
+mod cart_alpha;
+mod cart_bytes;
+mod cart_check;
+mod cart_matrices;
+mod cart_slices;
 mod cases;
+mod decoded;
+mod encoded;
+mod lent;
 mod lists;
 #[path = "../oracle/matrix_model.rs"]
 mod matrix_model;
@@ -16,6 +28,7 @@ mod matrix_model;
 mod model;
 mod oracles;
 mod probe;
+mod probe_alpha;
 mod probe_matrices;
 mod probe_slices;
 mod random;
@@ -23,6 +36,7 @@ mod random;
 mod refusal;
 mod refused;
 mod report;
+mod samples;
 mod shape;
 #[path = "../oracle/slice_model.rs"]
 mod slice_model;
@@ -41,6 +55,7 @@ coders! {
     bits
     coefficients
     whole_slices
+    alpha
     matrices
 }
 

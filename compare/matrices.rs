@@ -1,6 +1,6 @@
 // Matrices, scans and the scale: the functions of the crate `probe` that give a weight, a blended weight, a
 // scanned index or natural place and the scale of an index, on every number that names something and on the
-// ones next to them; and, in flags.rs, what a pair of tables is.
+// ones next to them; and, in flags.rs, what a pair of tables is. cart.rs asks the same over the C face.
 //
 // The Rust has tables where these functions have selectors, so what a selector names decides, and 13 where it
 // names nothing. The Rust blends for the numbers of its profiles alone; the others are held to the formula.
@@ -12,6 +12,7 @@ use crate::probe_matrices::{self, One};
 use crate::report::{guarded, told_both, Check, Report, Size, Verdict, MORE, PLAIN, REAL};
 use crate::Run;
 
+mod cart;
 mod flags;
 
 type Table = [u8; 64];
@@ -23,6 +24,7 @@ pub fn run(run: &Run, report: &mut Report) {
     blends(report);
     scans(report);
     scales(report);
+    cart::run(report);
     flags::run(run, report);
 }
 

@@ -1,28 +1,44 @@
 // oracle_check: the oracles alone, before anything is held to them. Document 01's table 'Bits written
-// out' and its single numbers on slices and matrices must hold for the Rust over both bit layers, and the
-// layers must differ in the end of data as listed. Built over the checked oracles too: no line may
-// overflow. The last line counts these lines.
+// out' and its single numbers on slices, matrices and alpha must hold for the Rust over both bit layers, the
+// model of alpha must read as it does, and the layers must differ in the end of data as listed. Built over the
+// checked oracles too: no line may overflow. The last line counts these lines.
 use std::panic::{catch_unwind, AssertUnwindSafe};
 
-// shared with the comparison, which uses more of it
+// shared with the comparison, which uses more of them
+#[path = "../oracle/alpha_model.rs"]
+#[allow(dead_code)]
+mod alpha_model;
+#[allow(dead_code)]
+mod cases;
 #[path = "../oracle/matrix_model.rs"]
 #[allow(dead_code)]
 mod matrix_model;
+#[path = "../oracle/model.rs"]
+#[allow(dead_code)]
+mod model;
+#[allow(dead_code)]
+mod random;
 #[path = "../oracle/refusal.rs"]
 mod refusal;
+use alpha_model::{Kind, KINDS};
+use cases::every;
 use matrix_model::before_holding;
 use refusal::refusal;
 
 mod plain {
     use oracle_plain as rust;
+    include!("alpha_coder.rs");
     include!("table.rs");
     include!("slice_table.rs");
+    include!("alpha_table.rs");
 }
 
 mod real {
     use oracle_real as rust;
+    include!("alpha_coder.rs");
     include!("table.rs");
     include!("slice_table.rs");
+    include!("alpha_table.rs");
 }
 
 /// Counts lines that came out as they should.
@@ -78,6 +94,7 @@ fn main() {
     let mut over_plain = Lines::new("the Rust over plain bits");
     plain::table(&mut over_plain);
     plain::slice_table(&mut over_plain);
+    plain::alpha_table(&mut over_plain);
     bit_counts(&mut over_plain);
     // up to 31 zero bits may follow for bitstream.rs, any number by document 01
     over_plain.line("80 00 00 00, 1 block", "accepted", || plain::accepted(&[0x80, 0, 0, 0]));
@@ -86,6 +103,7 @@ fn main() {
     let mut over_real = Lines::new("the Rust over bitstream.rs");
     real::table(&mut over_real);
     real::slice_table(&mut over_real);
+    real::alpha_table(&mut over_real);
     over_real.line("80 00 00 00, 1 block", "accepted", || real::accepted(&[0x80, 0, 0, 0]));
     over_real.line("80 00 00 00 00, 1 block", "refused 6", || real::accepted(&[0x80, 0, 0, 0, 0]));
 

@@ -1,6 +1,6 @@
 // The Rust over each of its two bit layers. Both crates have the same items, so the files are read twice:
-// layer.rs has what the bit layer does, coder.rs what the coder over it does, slice_coder.rs slices and
-// matrix_tables.rs matrices.
+// layer.rs has what the bit layer does, coder.rs what the coder over it does, slice_coder.rs slices, alpha_coder.rs
+// alpha and matrix_tables.rs matrices.
 use crate::refusal::refusal;
 
 pub mod plain {
@@ -8,6 +8,7 @@ pub mod plain {
     include!("layer.rs");
     include!("coder.rs");
     include!("slice_coder.rs");
+    include!("alpha_coder.rs");
     include!("matrix_tables.rs");
 }
 
@@ -16,6 +17,7 @@ pub mod real {
     include!("layer.rs");
     include!("coder.rs");
     include!("slice_coder.rs");
+    include!("alpha_coder.rs");
     include!("matrix_tables.rs");
 }
 

@@ -18,6 +18,9 @@ mod c {
     }
 }
 
+/// What a place for a number holds before a call: no answer, so that one that was not written shows.
+pub const UNWRITTEN: usize = 0xdead_beef_dead_beef;
+
 /// A refusal number, 0 for done, and what came back through the pointers. A function without a value
 /// tells 0.
 #[derive(Clone, Copy, PartialEq, Eq)]
@@ -48,11 +51,10 @@ impl fmt::Display for Told {
     }
 }
 
-/// Calls with places for a value and a next position. They hold a number that is no answer, so that
-/// one that was not written shows.
+/// Calls with places for a value and a next position.
 #[inline]
 fn told(call: impl FnOnce(*mut u32, *mut usize) -> u32) -> Told {
-    let (mut value, mut next) = (0xdead_beef, 0xdead_beef_dead_beef);
+    let (mut value, mut next) = (UNWRITTEN as u32, UNWRITTEN);
     let number = call(&mut value, &mut next);
     Told { number, value, next }
 }
@@ -100,7 +102,7 @@ pub fn align_byte(at: usize) -> Told {
 /// A refusal number, 0 for done, and the bits read.
 #[inline]
 pub fn decode(payload: &[u8], blocks: usize, list: &mut [i32]) -> (u32, usize) {
-    let mut bits = 0xdead_beef_dead_beef;
+    let mut bits = UNWRITTEN;
     let number =
         unsafe { c::probe_decode(payload.as_ptr(), payload.len(), blocks, list.as_mut_ptr(), list.len(), &mut bits) };
     (number, bits)
@@ -109,7 +111,7 @@ pub fn decode(payload: &[u8], blocks: usize, list: &mut [i32]) -> (u32, usize) {
 /// A refusal number, 0 for done, the bytes written (for refusal 3: needed) and the bits.
 #[inline]
 pub fn encode(list: &[i32], blocks: usize, out: &mut [u8]) -> (u32, usize, usize) {
-    let (mut bytes, mut bits) = (0xdead_beef_dead_beef, 0xdead_beef_dead_beef);
+    let (mut bytes, mut bits) = (UNWRITTEN, UNWRITTEN);
     let number = unsafe {
         c::probe_encode(list.as_ptr(), list.len(), blocks, out.as_mut_ptr(), out.len(), &mut bytes, &mut bits)
     };

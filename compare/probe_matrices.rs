@@ -1,4 +1,5 @@
 // The C face of the crate `probe` for matrices, scans and the scale, as its caller sees it.
+use crate::probe::UNWRITTEN;
 
 mod c {
     extern "C" {
@@ -12,9 +13,6 @@ mod c {
         pub fn probe_qscale(index: u8) -> u32;
     }
 }
-
-/// What a place for a number holds before a call: no answer, so that one that was not written shows.
-const UNWRITTEN: usize = 0xdead_beef_dead_beef;
 
 /// A refusal number, 0 for done, and the number that came back.
 #[derive(Clone, Copy, PartialEq, Eq)]

@@ -1,4 +1,5 @@
 // The C face of the crate `probe` for slices, as its caller sees it.
+use crate::probe::UNWRITTEN;
 use crate::shape::Shape;
 
 mod c {
@@ -15,9 +16,6 @@ mod c {
         ) -> u32;
     }
 }
-
-/// What a place for a number holds before a call: no answer, so that one that was not written shows.
-const UNWRITTEN: usize = 0xdead_beef_dead_beef;
 
 /// A refusal number, 0 for done, and what came back through the pointers, in the order Y, Cb, Cr.
 #[derive(Clone, Copy, PartialEq, Eq)]

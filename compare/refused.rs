@@ -1,5 +1,6 @@
 // Payloads that are refused with a given number. Each number can be had in four ways, of which `way` chooses one.
 use crate::model::MOST;
+use crate::slice_model::Layout;
 use crate::streams::Elements;
 
 /// A payload of two blocks or more that is refused with 5, 6, 7 or 8, or for 0 is good.
@@ -11,6 +12,11 @@ pub fn refused_with(number: u32, blocks: usize, way: usize) -> Vec<u8> {
         8 => out_of_range(blocks, way % 4),
         _ => good(blocks, way % 4),
     }
+}
+
+/// Such a payload for each component of a slice.
+pub fn slice_refused_with(numbers: [u32; 3], layout: &Layout, way: usize) -> [Vec<u8>; 3] {
+    [0, 1, 2].map(|component| refused_with(numbers[component], layout.blocks(component), way + component))
 }
 
 /// As many DCs, all 0.

@@ -68,6 +68,12 @@ impl Check {
         Check { name, numbers, listed: false, cases: 0, met: [0; NUMBERS], against }
     }
 
+    /// Held to other things than the oracles, whose places are in their order.
+    pub fn against(name: &'static str, numbers: &'static [u32], others: &[&'static str]) -> Self {
+        let against = others.iter().map(|other| Against::new(other)).collect();
+        Check { against, ..Check::new(name, numbers) }
+    }
+
     /// Holds it to one more thing, whose place is `MORE`.
     pub fn and_to(mut self, name: &'static str) -> Self {
         self.against.push(Against::new(name));
@@ -116,6 +122,47 @@ impl Check {
                 Some(_) => Verdict::Differs,
             };
             self.judge(oracle, size, verdict, || told(case(), ours, their));
+        }
+    }
+
+    /// Holds the answer to that of document 01's rules.
+    pub fn hold_to_rules<T: PartialEq + Display>(
+        &mut self,
+        size: Size,
+        ours: &T,
+        theirs: &T,
+        case: impl Fn() -> String,
+    ) {
+        self.hold_at(MORE, size, ours, ("by rule", theirs), case);
+    }
+
+    /// Holds the answer to that of one thing, with what to call it.
+    pub fn hold_at<T: PartialEq + Display>(
+        &mut self,
+        place: usize,
+        size: Size,
+        ours: &T,
+        (whose, theirs): (&str, &T),
+        case: impl Fn() -> String,
+    ) {
+        let verdict = if ours == theirs { Verdict::Equal } else { Verdict::Differs };
+        self.judge(place, size, verdict, || told_both(case(), ours, whose, theirs));
+    }
+
+    /// The same of a refusal for the arguments. The Rust has no such rules, so of it nothing is asked: a count far
+    /// past them would only take its memory.
+    pub fn hold_to_refusal<T: PartialEq + Display>(
+        &mut self,
+        size: Size,
+        number: u32,
+        ours: &T,
+        theirs: &T,
+        case: impl Fn() -> String,
+    ) {
+        self.hold_to_rules(size, ours, theirs, &case);
+        let verdict = if number == 0 { Verdict::Differs } else { Verdict::OurRule };
+        for oracle in [PLAIN, REAL] {
+            self.judge(oracle, size, verdict, || told_both(case(), ours, "by rule", theirs));
         }
     }
 }

@@ -1,6 +1,6 @@
 // Real slices, which three encoders wrote, with what must be read from them: the file real-slices.jsonl, one
 // JSON object a line, in ../shared/vectors or in the folder that the environment variable
-// MUONSATREY_VECTORS names. Of a slice its coefficients are taken, and not its alpha.
+// MUONSATREY_VECTORS names.
 use std::fs;
 use std::path::Path;
 
@@ -14,6 +14,7 @@ pub struct Slice {
     pub payloads: [Payload; 3],
     /// SHA-256 of the list of blocks as little-endian i32.
     pub sha: String,
+    pub alpha: Option<Alpha>,
 }
 
 /// One component of a slice.
@@ -25,6 +26,25 @@ pub struct Payload {
     pub bits: usize,
     /// SHA-256 of the scanned coefficients as little-endian i32.
     pub sha: String,
+}
+
+/// The alpha of a slice.
+pub struct Alpha {
+    pub name: String,
+    pub kind: usize,
+    pub samples: usize,
+    pub bytes: Vec<u8>,
+    /// Whether the Rust's own encoder wrote it.
+    pub by_rust: bool,
+    pub outcome: Outcome,
+}
+
+/// What reading an alpha payload comes to.
+pub enum Outcome {
+    /// The bits that are read, and SHA-256 of the samples as little-endian u16.
+    Read { bits: usize, sha: String },
+    /// The refusal, and the bit at which the refused element begins.
+    Refused { number: u32, start: usize },
 }
 
 /// The components whose payloads are coefficients, in their order.
@@ -55,14 +75,15 @@ pub fn slice(line: &str) -> Result<Slice, String> {
     };
     let bytes = from_base64(slice.get("slice")?.text()?)?;
     let lengths = slice.get("len")?.list()?.iter().map(Json::number).collect::<Result<Vec<_>, _>>()?;
-    let header = if number("kind")? == 0 { 6 } else { 8 };
+    // with alpha there is one length more
+    let (header, parts) = if number("kind")? == 0 { (6, 3) } else { (8, 4) };
     if header + lengths.iter().sum::<usize>() != bytes.len() {
         return Err("the lengths are not those of the slice".to_string());
     }
     let name = format!("{} slice {}", slice.get("enc")?.text()?, number("id")?);
     let (bits, sha) = (slice.get("bits")?.list()?, slice.get("sha")?.list()?);
-    if lengths.len() < 3 || bits.len() != 3 || sha.len() != 3 {
-        return Err("there are not three components".to_string());
+    if lengths.len() != parts || bits.len() != 3 || sha.len() != 3 {
+        return Err("there are not three components, or four with alpha".to_string());
     }
     let mut at = header;
     let mut payload = |i: usize| {
@@ -77,7 +98,22 @@ pub fn slice(line: &str) -> Result<Slice, String> {
         })
     };
     let payloads = [payload(0)?, payload(1)?, payload(2)?];
-    Ok(Slice { name, shape, payloads, sha: slice.get("blocks")?.text()?.to_string() })
+    let alpha = match number("kind")? {
+        0 => None,
+        kind => {
+            let outcome = outcome(slice.get("alpha")?)?;
+            let (name, by_rust) = (format!("{} alpha", name), slice.get("enc")?.text()? == "ox");
+            Some(Alpha { name, kind, samples: number("nalpha")?, bytes: bytes[at..].to_vec(), by_rust, outcome })
+        }
+    };
+    Ok(Slice { name, shape, payloads, sha: slice.get("blocks")?.text()?.to_string(), alpha })
+}
+
+fn outcome(alpha: &Json) -> Result<Outcome, String> {
+    match alpha.get("no")?.number()? {
+        0 => Ok(Outcome::Read { bits: alpha.get("bits")?.number()?, sha: alpha.get("sha")?.text()?.to_string() }),
+        number => Ok(Outcome::Refused { number: number as u32, start: alpha.get("start")?.number()? }),
+    }
 }
 
 fn from_base64(text: &str) -> Result<Vec<u8>, String> {

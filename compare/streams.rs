@@ -191,6 +191,12 @@ pub fn random_payload(random: &mut Random, blocks: usize) -> Vec<u8> {
             code(&list, blocks)
         }
     };
+    damage(random, &mut bytes);
+    bytes
+}
+
+/// Five times in eight a payload has a bit changed, loses its end or a stretch, or has zero bytes behind it.
+pub fn damage(random: &mut Random, bytes: &mut Vec<u8>) {
     match random.below(8) {
         0 if !bytes.is_empty() => {
             let place = random.below(bytes.len() as u64) as usize;
@@ -207,11 +213,10 @@ pub fn random_payload(random: &mut Random, blocks: usize) -> Vec<u8> {
         5 if random.once_in(100) => bytes.resize(MOST_BYTES + random.below(3) as usize - 1, 0),
         _ => {}
     }
-    bytes
 }
 
 /// Up to 40 bytes, in which a bit of a byte is 1 about once in so many.
-fn random_noise(random: &mut Random, once_in: u64) -> Vec<u8> {
+pub fn random_noise(random: &mut Random, once_in: u64) -> Vec<u8> {
     let mut byte = || (0..8).fold(0, |byte, _| byte << 1 | u8::from(random.once_in(once_in)));
     let bytes: Vec<u8> = (0..40).map(|_| byte()).collect();
     bytes[..random.below(41) as usize].to_vec()

@@ -1,8 +1,7 @@
 // Document 01's table 'Bits written out' on one oracle. This file is read once for each, with `rust` as
-// its name (oracle_check.rs). What only our own code can answer is not here: the room of a buffer, and
-// refusal 8, where the Rust has no limit.
+// its name and behind alpha_coder.rs (oracle_check.rs). What only our own code can answer is not here: the
+// room of a buffer, and refusal 8, where the Rust has no limit.
 use super::{hex, refusal, Lines};
-use rust::alpha::{decode_scanned_alpha, encode_scanned_alpha, AlphaChannelType};
 use rust::entropy::{decode_scanned_coefficients, encode_scanned_coefficients};
 
 /// The code of a list that is zero but for the named places.
@@ -26,22 +25,17 @@ pub fn accepted(payload: &[u8]) -> String {
     decoded(payload, 1).map_or_else(|number| format!("refused {}", number), |_| "accepted".to_string())
 }
 
-fn alpha_kind(code: u8) -> AlphaChannelType {
-    AlphaChannelType::from_code(code).expect("a known kind").expect("not the kind for none")
+/// The code of samples, which must be read back.
+pub fn encoded_alpha(kind: usize, samples: &[u16]) -> String {
+    let bytes = encode_alpha(samples, kind);
+    assert_eq!(decode_alpha(&bytes, kind, samples.len()).as_deref(), Ok(samples), "a code must be read back");
+    hex(&bytes)
 }
 
-fn encoded_alpha(kind: u8, samples: &[u16]) -> Vec<u8> {
-    let bytes = encode_scanned_alpha(samples, alpha_kind(kind)).expect("samples are encoded");
-    let read = decode_scanned_alpha(&bytes, samples.len(), alpha_kind(kind)).expect("a code must be read back");
-    assert_eq!(read, samples);
-    bytes
-}
-
-fn accepted_alpha(kind: u8, payload: &[u8], samples: usize) -> String {
-    match decode_scanned_alpha(payload, samples, alpha_kind(kind)) {
-        Ok(_) => "accepted".to_string(),
-        Err(error) => format!("refused {}", refusal(error.text())),
-    }
+/// The samples of a payload, or document 01's refusal.
+pub fn decoded_alpha(payload: &[u8], kind: usize, samples: usize) -> String {
+    let list = decode_alpha(payload, kind, samples);
+    list.map_or_else(|number| format!("refused {}", number), |list| format!("{:?}", list))
 }
 
 pub fn table(lines: &mut Lines) {
@@ -76,7 +70,7 @@ pub fn table(lines: &mut Lines) {
         lines.line(&format!("{}, 1 block", hex(payload)), answer, || accepted(payload));
     }
 
-    let alpha: &[(u8, &[u16], &str)] = &[
+    let alpha: &[(usize, &[u16], &str)] = &[
         (2, &[0], "00 80"),
         (2, &[65535], "80 00 40"),
         (1, &[7], "74"),
@@ -88,14 +82,14 @@ pub fn table(lines: &mut Lines) {
     ];
     for &(kind, samples, bytes) in alpha {
         let input = format!("kind {}: {} samples, first {}", kind, samples.len(), samples[0]);
-        lines.line(&input, bytes, || hex(&encoded_alpha(kind, samples)));
+        lines.line(&input, bytes, || encoded_alpha(kind, samples));
     }
 
     let refused_alpha: &[(&[u8], usize, &str)] =
         &[(&[0, 0, 0x78], 20, "refused 9"), (&[0x75], 1, "refused 12"), (&[0x74, 0], 1, "refused 11")];
     for &(payload, samples, answer) in refused_alpha {
         lines.line(&format!("{}, {} samples, kind 1", hex(payload), samples), answer, || {
-            accepted_alpha(1, payload, samples)
+            decoded_alpha(payload, 1, samples)
         });
     }
 }

@@ -1,16 +1,18 @@
 // Whole slices: decode_slice and encode_slice of the crate `probe` on every shape, on every place of a
 // coefficient, on every refusal in every component and on random slices, good and bad. decode.rs and
-// encode.rs, in the folder of this name, make each call and judge it.
+// encode.rs, in the folder of this name, make each call and judge it, and cart.rs a sample of them over the C
+// face.
 use crate::lists::{list, random_list, Kind, KINDS as LISTS, OUT_OF_RANGE};
 use crate::model::{MOST, MOST_BYTES};
 use crate::random::Random;
-use crate::refused::refused_with;
+use crate::refused::{refused_with, slice_refused_with};
 use crate::report::Report;
 use crate::shape::{Shape, KINDS};
-use crate::slice_model::{Layout, MOST_MACROBLOCKS};
+use crate::slice_model::{every_shape, layout, shapes_of, MOST_MACROBLOCKS};
 use crate::streams::{code, random_payload};
 use crate::Run;
 
+mod cart;
 mod decode;
 mod encode;
 use decode::Decode;
@@ -28,6 +30,8 @@ pub fn run(run: &Run, report: &mut Report) {
     every_cut(&mut face, random);
     every_tail(&mut face, random);
     every_width(&mut face, random);
+    face.decode.cart.every_own_argument(random);
+    face.encode.cart.every_own_argument(random);
     random_cases(&mut face, random, run.cases / CASES_A_SLICE);
     face.decode.close(report);
     face.encode.close(report);
@@ -53,19 +57,6 @@ impl Face {
     fn encode_exactly(&mut self, list: &[i32], shape: Shape) {
         self.encode.ask(list, shape, false, &mut self.decode);
     }
-}
-
-fn layout(shape: Shape) -> Layout {
-    Layout::of(shape).unwrap_or_else(|_| panic!("{} is no shape", shape))
-}
-
-/// Every shape that is known, the small ones first.
-fn every_shape() -> impl Iterator<Item = Shape> {
-    (1..=MOST_MACROBLOCKS).flat_map(shapes_of)
-}
-
-fn shapes_of(macroblocks: usize) -> impl Iterator<Item = Shape> {
-    KINDS.into_iter().map(move |(chroma, scan)| Shape { macroblocks, chroma, scan })
 }
 
 /// The blocks of a slice whose components are lists of these.
@@ -166,12 +157,9 @@ fn every_refusal(face: &mut Face) {
     for (turn, shape) in every_shape().enumerate() {
         let layout = layout(shape);
         for combination in 0..125 {
-            let numbers = [combination / 25, combination / 5 % 5, combination % 5];
+            let numbers = [combination / 25, combination / 5 % 5, combination % 5].map(|i| NUMBERS[i]);
             // each number can be had in several ways
-            let payloads = [0, 1, 2].map(|component| {
-                refused_with(NUMBERS[numbers[component]], layout.blocks(component), turn + combination + component)
-            });
-            face.decode(&payloads, shape);
+            face.decode(&slice_refused_with(numbers, &layout, turn + combination), shape);
         }
     }
 }

@@ -11,6 +11,12 @@ use std::path::Path;
 
 use oracle_plain::bitstream::{BitReader, BitWriter};
 
+mod alpha_cases;
+// shared with the comparison, which uses more of them
+#[allow(dead_code)]
+mod alpha_model;
+#[path = "../compare/alpha/streams.rs"]
+mod alpha_streams;
 mod blend;
 mod coefficients;
 // shared with the comparison, which uses more of them
@@ -25,6 +31,8 @@ mod random;
 mod refusal;
 #[path = "../compare/refused.rs"]
 mod refused;
+#[path = "../compare/samples.rs"]
+mod samples;
 #[path = "../compare/shape.rs"]
 mod shape;
 mod slice_cases;
@@ -32,6 +40,16 @@ mod slice_model;
 #[path = "../compare/streams.rs"]
 mod streams;
 use random::Random;
+
+/// The alpha coder of the Rust, under the name that the comparison's files know it by.
+mod oracles {
+    use crate::refusal::refusal;
+
+    pub mod plain {
+        use oracle_plain as rust;
+        include!("../compare/alpha_coder.rs");
+    }
+}
 
 const SEED: u64 = 36;
 
@@ -313,6 +331,7 @@ fn main() {
             "coefficients" => coefficients::add_to(&mut stored),
             "matrices" => matrices::add_to(&mut stored),
             "slices" => slice_cases::add_to(&mut stored),
+            "alpha" => alpha_cases::add_to(&mut stored),
             _ => panic!("there are no cases of {}", coder),
         }
     }

@@ -7,7 +7,7 @@
 set -eu
 cd "$(dirname "$0")/.."
 # the coders whose letters replay knows, beside the bit layer
-coders='coefficients matrices slices'
+coders='coefficients matrices slices alpha'
 usage() { echo "usage: oracle/answers.sh [--check | --with CODER]" >&2; exit 2; }
 case $#:${1:-} in
 0: | 1:--check) ;;

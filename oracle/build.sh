@@ -6,7 +6,8 @@
 #   FORM  release  optimised, as its users would build it
 #         checked  optimised, and a panic wherever a number overflows or a debug assertion fails
 #
-# Writes target/oracle/FORM/liboracle_KIND.rlib. Plain rustc: no cargo, no other crate.
+# Writes target/oracle/FORM/liboracle_KIND.rlib, and nothing that another KIND or FORM uses: the four can be built
+# side by side. Plain rustc: no cargo, no other crate.
 set -eu
 cd "$(dirname "$0")/.."
 
@@ -30,7 +31,7 @@ build() { # KIND FORM
     checked) flags='-C overflow-checks=on -C debug-assertions=on' ;;
     *) fail "the form is release or checked, not $form" ;;
     esac
-    source=target/oracle/source/$kind result=target/oracle/$form/liboracle_$kind.rlib
+    source=target/oracle/source/$form/$kind result=target/oracle/$form/liboracle_$kind.rlib
     # a failure must not leave an earlier build behind
     rm -rf "$source" "$result"
     mkdir -p "$source" "target/oracle/$form"

@@ -11,9 +11,9 @@ use crate::lists::OUT_OF_RANGE;
 use crate::model::MOST;
 use crate::random::Random;
 use crate::refusal::refusal;
-use crate::refused::refused_with;
+use crate::refused::slice_refused_with;
 use crate::shape::{Shape, KINDS};
-use crate::slice_model::{self, Layout, MOST_MACROBLOCKS};
+use crate::slice_model::{self, every_shape, layout, shapes_of, Layout, MOST_MACROBLOCKS};
 use crate::streams::{code, random_payload};
 use crate::{hex, Stored, SEED};
 
@@ -137,18 +137,6 @@ fn coded(shape: Shape, layout: &Layout, list: &[i32], room: usize) -> String {
 
 // ---- shapes
 
-fn layout(shape: Shape) -> Layout {
-    Layout::of(shape).unwrap_or_else(|_| panic!("{} is no shape", shape))
-}
-
-fn every_shape() -> impl Iterator<Item = Shape> {
-    (1..=MOST_MACROBLOCKS).flat_map(shapes_of)
-}
-
-fn shapes_of(macroblocks: usize) -> impl Iterator<Item = Shape> {
-    KINDS.into_iter().map(move |(chroma, scan)| Shape { macroblocks, chroma, scan })
-}
-
 fn codes(shape: Shape, set: Set<'_>) -> Payloads {
     rust_slices::encode_slice(&list_of(layout(shape).length(), set), shape).expect("blocks of this shape")
 }
@@ -250,14 +238,9 @@ fn ranges(stored: &mut Stored) {
 
 // ---- payloads
 
-/// A payload for each component that is refused with its number, or good for 0.
-fn with(shape: Shape, numbers: [u32; 3], way: usize) -> Payloads {
-    let layout = layout(shape);
-    [0, 1, 2].map(|component| refused_with(numbers[component], layout.blocks(component), way + component))
-}
-
 /// Each refusal in each component, in each way; then in two components and in all three.
 fn refusals(stored: &mut Stored) {
+    let with = |shape, numbers, way| slice_refused_with(numbers, &layout(shape), way);
     let numbers = [5, 6, 7, 8];
     let alone = |component: usize, number: u32| {
         let mut numbers = [0; 3];

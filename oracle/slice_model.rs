@@ -7,9 +7,23 @@
 use oracle_plain::quant::{BLOCK_SCAN_INTERLACED, BLOCK_SCAN_PROGRESSIVE};
 
 use crate::model::{self, in_range, MOST_BYTES};
-use crate::shape::Shape;
+use crate::shape::{Shape, KINDS};
 
 pub const MOST_MACROBLOCKS: usize = 8;
+
+/// Every shape that is known, the small ones first.
+pub fn every_shape() -> impl Iterator<Item = Shape> {
+    (1..=MOST_MACROBLOCKS).flat_map(shapes_of)
+}
+
+pub fn shapes_of(macroblocks: usize) -> impl Iterator<Item = Shape> {
+    KINDS.into_iter().map(move |(chroma, scan)| Shape { macroblocks, chroma, scan })
+}
+
+/// The layout of a shape that is known.
+pub fn layout(shape: Shape) -> Layout {
+    Layout::of(shape).unwrap_or_else(|_| panic!("{} is no shape", shape))
+}
 
 /// Where the coefficients of a slice stand.
 pub struct Layout {

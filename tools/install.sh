@@ -1,7 +1,9 @@
 #!/bin/sh
-# tools/install.sh: sees to what the comparison needs beside the Rattle kit: a C compiler, which rustc
-# links with, and a rustc that knows div_ceil, which the given Rust uses. What is missing is installed
-# from Debian's packages where this runs as root; else it says what to run, and fails.
+# tools/install.sh: sees to what the comparison and the host programs need beside the Rattle kit: a C
+# compiler, which rustc links with; a rustc that knows div_ceil, which the given Rust uses; a C++ compiler,
+# make and pkg-config; and on a machine that is not x86-64 a C compiler for x86-64, since that is what the
+# library is for. What is missing is installed from Debian's packages where this runs as root; else it
+# says what to run, and fails.
 set -eu
 
 # Whether the rustc at hand is 1.73 or newer, the first with div_ceil.
@@ -16,14 +18,19 @@ rustc_will_do() {
 
 # The packages that are missing, one a line.
 missing() {
-    command -v cc >/dev/null || printf '%s\n' gcc libc6-dev
+    command -v cc >/dev/null && command -v gcc >/dev/null || printf '%s\n' gcc libc6-dev
+    for tool in g++ make pkg-config; do
+        command -v $tool >/dev/null || echo $tool
+    done
+    [ "$(uname -m)" = x86_64 ] || command -v x86_64-linux-gnu-gcc >/dev/null ||
+        printf '%s\n' gcc-x86-64-linux-gnu libc6-dev-amd64-cross
     # Debian 12's own rustc is too old; it has a newer one beside it under this name
     rustc_will_do || if apt-cache show rustc-web >/dev/null 2>&1; then echo rustc-web; else echo rustc; fi
 }
 
 [ -n "$(missing)" ] || { echo "install: nothing is missing"; exit; }
 command -v apt-get >/dev/null || {
-    echo "install: a C compiler (cc) and rustc 1.73 or newer are needed, and here is no apt-get to install them" >&2
+    echo "install: missing, and here is no apt-get to install it: $(missing | tr '\n' ' ')" >&2
     exit 1
 }
 if [ "$(id -u)" -ne 0 ]; then

@@ -3,57 +3,23 @@
 // What we accept both oracles accept, with equal coefficients and, where the plain bit layer tells them,
 // equal bits; but for the listed difference in the end of data. Where we refuse with 5, 6 or 7, the plain
 // one gives that very error and the other gives one. The refusals 1 to 4 and 8, the state of every lent
-// list and buffer and the bound on a code are rules of document 01 alone: oracle/model.rs has them.
-use std::fmt;
-
-use crate::cases::{as_it_was, old_byte, old_coefficient, shown, shown_list, Lent};
+// list and buffer and the bound on a code are rules of document 01 alone: oracle/model.rs has them. Of all
+// calls a sample is made over the C face as well (cart.rs).
+use crate::decoded::{by_any_error, by_error, told_theirs, Decoded, Theirs};
+use crate::encoded::Encoded;
+use crate::lent::{old, shown, size_of, Item, Lent};
 use crate::model::{self, MOST_BLOCKS, MOST_BYTES};
 use crate::oracles::{plain, real};
 use crate::probe;
 use crate::report::{guarded, told_both, Check, Report, Size, Verdict, MORE, PLAIN, REAL};
 
+use super::cart::Cart;
+
 // ---- one call of decode
-
-/// What a call of decode answered, and the list after it.
-#[derive(PartialEq)]
-struct Decoded<'a> {
-    number: u32,
-    bits: usize,
-    list: &'a [i32],
-    inside: bool,
-}
-
-impl fmt::Display for Decoded<'_> {
-    fn fmt(&self, f: &mut fmt::Formatter<'_>) -> fmt::Result {
-        match self.number {
-            0 => write!(f, "{} bits, ", self.bits)?,
-            number if self.bits == 0 => write!(f, "refused {}, ", number)?,
-            number => write!(f, "refused {} with {} bits, ", number, self.bits)?,
-        }
-        if as_it_was(self.list, old_coefficient) {
-            write!(f, "list as it was")?;
-        } else {
-            write!(f, "list {}", shown_list(self.list))?;
-        }
-        write!(f, "{}", if self.inside { "" } else { ", and coefficients outside the list changed" })
-    }
-}
-
-/// What the Rust gave: coefficients or the number of its error.
-type Theirs = Option<Result<Vec<i32>, u32>>;
-
-fn told_theirs(theirs: &Theirs, bits: Option<usize>) -> String {
-    match (theirs, bits) {
-        (None, _) => "panicked".to_string(),
-        (Some(Err(number)), _) => format!("the error of refusal {}", number),
-        (Some(Ok(list)), None) => format!("list {}", shown_list(list)),
-        (Some(Ok(list)), Some(bits)) => format!("{} bits, list {}", bits, shown_list(list)),
-    }
-}
 
 /// Whether refusal 8 is explained: a whole number is out of range, and where the Rust, which goes on there,
 /// gives a list, that has it too. Below 2^30 none of its sums and symbols has wrapped.
-fn explains_8(exact: &[i64], theirs: &Theirs) -> bool {
+fn explains_8(exact: &[i64], theirs: &Theirs<i32>) -> bool {
     let Some(place) = exact.iter().position(|&value| !model::in_range(value)) else { return false };
     match theirs {
         Some(Ok(list)) if exact[place].abs() < 1 << 30 => {
@@ -65,78 +31,11 @@ fn explains_8(exact: &[i64], theirs: &Theirs) -> bool {
 
 /// Whether bitstream.rs, like RDD 36, does not see that data has ended: more than 31 bits are left, all of
 /// them zero (or we would not have stopped), and coefficients are still to come, since the last is 0.
-fn listed_difference(payload: &[u8], ours: &Decoded<'_>) -> bool {
+fn listed_difference(payload: &[u8], ours: &Decoded<'_, i32>) -> bool {
     (8 * payload.len()).saturating_sub(ours.bits) > 31 && ours.list.last() == Some(&0)
 }
 
-fn of_plain(ours: &Decoded<'_>, exact: &[i64], theirs: &Theirs, bits: usize) -> Verdict {
-    match (ours.number, theirs) {
-        (0, Some(Ok(list))) if list == ours.list && bits == ours.bits => Verdict::Equal,
-        (5..=7, &Some(Err(number))) if number == ours.number => Verdict::Equal,
-        (8, _) if explains_8(exact, theirs) => Verdict::OurRule,
-        (_, None) => Verdict::Fault,
-        _ => Verdict::Differs,
-    }
-}
-
-fn of_real(ours: &Decoded<'_>, exact: &[i64], theirs: &Theirs, payload: &[u8]) -> Verdict {
-    match (ours.number, theirs) {
-        // the listed difference is one in each direction: where it is said to be, it must be
-        (0, Some(Err(_))) if listed_difference(payload, ours) => Verdict::Listed,
-        (0, Some(Ok(list))) if !listed_difference(payload, ours) && list == ours.list => Verdict::Equal,
-        (5..=7, Some(Err(_))) => Verdict::Equal,
-        (8, _) if explains_8(exact, theirs) => Verdict::OurRule,
-        (_, None) => Verdict::Fault,
-        _ => Verdict::Differs,
-    }
-}
-
 // ---- one call of encode
-
-/// What a call of encode answered, and the buffer after it.
-#[derive(PartialEq)]
-struct Encoded {
-    number: u32,
-    bytes: usize,
-    bits: usize,
-    buffer: Vec<u8>,
-    inside: bool,
-}
-
-impl Encoded {
-    fn refused(number: u32, bytes: usize, room: usize) -> Self {
-        Encoded { number, bytes, bits: 0, buffer: (0..room).map(old_byte).collect(), inside: true }
-    }
-
-    /// What document 01 makes of a code and the room for it.
-    fn of_code(code: &[u8], bits: usize, room: usize) -> Self {
-        if code.len() > room {
-            return Encoded::refused(3, code.len(), room);
-        }
-        let buffer = code.iter().copied().chain((code.len()..room).map(old_byte)).collect();
-        Encoded { number: 0, bytes: code.len(), bits, buffer, inside: true }
-    }
-
-    /// The code, without what stands behind it.
-    fn code(&self) -> &[u8] {
-        &self.buffer[..self.bytes.min(self.buffer.len())]
-    }
-}
-
-impl fmt::Display for Encoded {
-    fn fmt(&self, f: &mut fmt::Formatter<'_>) -> fmt::Result {
-        match self.number {
-            0 => write!(f, "{} bytes, {} bits, ", self.bytes, self.bits)?,
-            number => write!(f, "refused {} with {} bytes and {} bits, ", number, self.bytes, self.bits)?,
-        }
-        if as_it_was(&self.buffer, old_byte) {
-            write!(f, "buffer as it was")?;
-        } else {
-            write!(f, "buffer {}", shown(&self.buffer))?;
-        }
-        write!(f, "{}", if self.inside { "" } else { ", and bytes outside the buffer changed" })
-    }
-}
 
 /// What document 01 says of any accepted code, whoever wrote it.
 fn bytes_fit(ours: &Encoded, list: &[i32]) -> bool {
@@ -152,6 +51,7 @@ fn bytes_fit(ours: &Encoded, list: &[i32]) -> bool {
 pub struct Face {
     decode: Check,
     encode: Check,
+    pub cart: Cart,
     payload: Lent,
     list: Lent<i32>,
     /// The list that encode reads and the buffer that it writes.
@@ -168,6 +68,7 @@ impl Face {
         Face {
             decode: Check::new("decode", &[0, 1, 2, 5, 6, 7, 8]).with_listed_difference().and_to(rules),
             encode: Check::new("encode", &[0, 1, 2, 3, 4]).and_to("document 01's rules, and read back as the list"),
+            cart: Cart::new(),
             payload: Lent::new(&[]),
             list: Lent::new(&[]),
             source: Lent::new(&[]),
@@ -180,6 +81,7 @@ impl Face {
     pub fn close(self, report: &mut Report) {
         report.close(self.decode);
         report.close(self.encode);
+        self.cart.close(report);
     }
 
     /// Decodes into a list of the length that the blocks ask for.
@@ -190,7 +92,7 @@ impl Face {
     /// Decodes into a list of any length, and tells what the proved code answered.
     pub fn decode_into(&mut self, payload: &[u8], blocks: usize, length: usize) -> (u32, usize) {
         self.expected.clear();
-        self.expected.extend((0..length).map(old_coefficient));
+        self.expected.extend((0..length).map(i32::old));
         self.payload.set(payload);
         self.list.set(&self.expected);
         let (number, bits) = probe::decode(self.payload.items(), blocks, self.list.items_mut());
@@ -199,6 +101,7 @@ impl Face {
 
         let size = Size { bytes: payload.len(), at: blocks, width: length as u64 };
         let case = || format!("decode {} blocks into a list of {} from {}", blocks, length, shown(payload));
+        self.cart.decode(payload, blocks, &ours, size, case);
         let arguments = model::decode_arguments(payload, blocks, length);
         let by_rule = arguments.and_then(|()| model::decode(payload, blocks, &mut self.exact));
         match (arguments, by_rule) {
@@ -208,24 +111,22 @@ impl Face {
         }
         let (number, bits) = by_rule.map_or_else(|number| (number, 0), |bits| (0, bits));
         let theirs = Decoded { number, bits, list: &self.expected, inside: true };
-        let verdict = if ours == theirs { Verdict::Equal } else { Verdict::Differs };
-        self.decode.judge(MORE, size, verdict, || told_both(case(), &ours, "by rule", &theirs));
-
-        // the Rust has no such rules, and a count far past them would only take its memory
         if arguments.is_err() {
-            let verdict = if ours.number == 0 { Verdict::Differs } else { Verdict::OurRule };
-            for oracle in [PLAIN, REAL] {
-                self.decode.judge(oracle, size, verdict, || told_both(case(), &ours, "by rule", &theirs));
-            }
+            self.decode.hold_to_refusal(size, ours.number, &ours, &theirs, case);
             return (ours.number, ours.bits);
         }
+        self.decode.hold_to_rules(size, &ours, &theirs, case);
+
+        let explained = |theirs: &_| ours.number == 8 && explains_8(&self.exact, theirs);
+        let same = |theirs: &Theirs<i32>| matches!(theirs, Some(Ok(list)) if list == ours.list);
+        let tell = |theirs| told_both(case(), &ours, "oracle", &theirs);
         let theirs = guarded(|| plain::decode(payload, blocks));
         let bits = if blocks == 0 { 0 } else { oracle_plain::bitstream::bits_read() };
-        let verdict = of_plain(&ours, &self.exact, &theirs, bits);
-        let tell = |theirs| told_both(case(), &ours, "oracle", &theirs);
+        let verdict = by_error(ours.number, &theirs, same(&theirs) && bits == ours.bits, explained(&theirs));
         self.decode.judge(PLAIN, size, verdict, || tell(told_theirs(&theirs, Some(bits))));
         let theirs = guarded(|| real::decode(payload, blocks));
-        let verdict = of_real(&ours, &self.exact, &theirs, payload);
+        let listed = listed_difference(payload, &ours);
+        let verdict = by_any_error(ours.number, &theirs, same(&theirs), explained(&theirs), listed);
         self.decode.judge(REAL, size, verdict, || tell(told_theirs(&theirs, None)));
         (ours.number, ours.bits)
     }
@@ -250,7 +151,7 @@ impl Face {
             }
             let ours = self.encoded(list, blocks, room);
             let theirs = [&by_plain, &by_real].map(|code| code.as_ref().map(|code| Encoded::of_code(code, bits, room)));
-            let size = encode_size(list, room);
+            let size = size_of(list, room);
             let case = || encode_case(list, blocks, room);
             self.encode.hold(size, ours.number, &ours, theirs, case);
             let read_back = room != needed || ours.number != 0 || self.reads_back(&ours, list, blocks);
@@ -265,23 +166,18 @@ impl Face {
     fn refused_encode(&mut self, list: &[i32], blocks: usize, room: usize, number: u32) {
         let ours = self.encoded(list, blocks, room);
         let theirs = Encoded::refused(number, 0, room);
-        let size = encode_size(list, room);
-        let case = || encode_case(list, blocks, room);
         self.encode.count(ours.number);
-        let verdict = if ours == theirs { Verdict::Equal } else { Verdict::Differs };
-        self.encode.judge(MORE, size, verdict, || told_both(case(), &ours, "by rule", &theirs));
-        for oracle in [PLAIN, REAL] {
-            let verdict = if ours.number == 0 { Verdict::Differs } else { Verdict::OurRule };
-            self.encode.judge(oracle, size, verdict, || told_both(case(), &ours, "by rule", &theirs));
-        }
+        self.encode.hold_to_refusal(size_of(list, room), ours.number, &ours, &theirs, || encode_case(list, blocks, room));
     }
 
     fn encoded(&mut self, list: &[i32], blocks: usize, room: usize) -> Encoded {
-        let old: Vec<u8> = (0..room).map(old_byte).collect();
         self.source.set(list);
-        self.buffer.set(&old);
+        self.buffer.set(&old(room));
         let (number, bytes, bits) = probe::encode(self.source.items(), blocks, self.buffer.items_mut());
-        Encoded { number, bytes, bits, buffer: self.buffer.items().to_vec(), inside: self.buffer.guards_stand() }
+        let (buffer, inside) = (self.buffer.items().to_vec(), self.buffer.guards_stand());
+        let ours = Encoded { number, bytes, bits, buffer, inside };
+        self.cart.encode(list, blocks, &ours, || size_of(list, room), || encode_case(list, blocks, room));
+        ours
     }
 
     /// Whether our decode reads the code as the list that it was made of, bit for bit as long; alone, and with
@@ -304,13 +200,6 @@ fn read(ours: &Encoded, blocks: usize) -> String {
     Decoded { number, bits, list: &list, inside: true }.to_string()
 }
 
-/// Fewer coefficients are smaller, then fewer that are not 0, then smaller ones, then less room.
-fn encode_size(list: &[i32], room: usize) -> Size {
-    let magnitudes: u64 = list.iter().map(|value| u64::from(value.unsigned_abs())).sum();
-    let at = list.iter().filter(|&&value| value != 0).count();
-    Size { bytes: list.len(), at, width: (magnitudes << 16) + room as u64 }
-}
-
 fn encode_case(list: &[i32], blocks: usize, room: usize) -> String {
-    format!("encode {} blocks from a list of {}, {}, into {} bytes", blocks, list.len(), shown_list(list), room)
+    format!("encode {} blocks from a list of {}, {}, into {} bytes", blocks, list.len(), shown(list), room)
 }

@@ -2,7 +2,7 @@
 // Rust has, of every table that differs from a plain one in one weight at a border, and of random ones.
 use std::fmt;
 
-use crate::cases::{shown, Lent};
+use crate::lent::{shown, Lent};
 use crate::matrix_model;
 use crate::oracles::{plain, real};
 use crate::probe_matrices;
@@ -10,7 +10,7 @@ use crate::random::Random;
 use crate::report::{guarded, told_both, Check, Report, Size, Verdict, MORE};
 use crate::Run;
 
-use super::{Table, RULES};
+use super::{cart, Table, RULES};
 
 /// Of the random cases that a run asks for, one in so many is a pair of tables.
 const CASES_A_PAIR: u64 = 20;
@@ -40,6 +40,7 @@ fn told(flags: Result<[bool; 4], u32>) -> Told {
 
 struct Flags {
     check: Check,
+    cart: cart::Flags,
     /// How often each combination of valid, luma loaded and chroma loaded was met.
     met: [u64; 8],
     luma: Lent,
@@ -49,7 +50,7 @@ struct Flags {
 impl Flags {
     fn new() -> Self {
         let check = Check::new("flags", &[0, 2]).and_to(RULES);
-        Flags { check, met: [0; 8], luma: Lent::new(&[]), chroma: Lent::new(&[]) }
+        Flags { check, cart: cart::Flags::new(), met: [0; 8], luma: Lent::new(&[]), chroma: Lent::new(&[]) }
     }
 
     fn close(self, report: &mut Report) {
@@ -61,6 +62,7 @@ impl Flags {
                 report.meet(times, &format!("valid {}, loads luma {}, chroma {}", valid, luma, chroma));
             }
         }
+        self.cart.close(report);
     }
 
     fn ask(&mut self, luma: &[u8], chroma: &[u8]) {
@@ -79,6 +81,7 @@ impl Flags {
             let by_plain = guarded(|| told(Ok(plain::flags(luma, chroma))));
             let by_real = guarded(|| told(Ok(real::flags(luma, chroma))));
             self.check.hold(size, number, &ours, [by_plain, by_real], case);
+            self.cart.ask([luma, chroma], (number, flags), size, case);
         } else {
             // the Rust has no tables of other lengths
             self.check.count(number);

@@ -3,48 +3,36 @@
 // What we accept both oracles accept, with equal blocks and, where the plain bit layer tells them, equal
 // bits: it tells those of the component read last. Where we refuse with 5, 6 or 7, the plain one gives that
 // very error and the other gives one. The component that is named, the bits of each, the refusals 13, 1, 2
-// and 8 and what the list then holds are rules of document 01 alone: oracle/slice_model.rs has them.
+// and 8 and what the list then holds are rules of document 01 alone: oracle/slice_model.rs has them. Of all
+// calls a sample is made over the C face as well (cart.rs).
 use std::fmt;
 
-use crate::cases::{as_it_was, old_coefficient, shown, shown_list, Lent};
+use crate::decoded::{by_any_error, by_error, told_theirs, Theirs};
+use crate::lent::{old, shown, told_list, Item, Lent};
 use crate::model;
 use crate::oracles::{plain, real};
 use crate::probe_slices::{self, Decoded as Told};
-use crate::report::{guarded, told_both, Check, Report, Size, Verdict, MORE, PLAIN, REAL};
+use crate::report::{guarded, told_both, Check, Report, Size, PLAIN, REAL};
 use crate::shape::Shape;
 use crate::slice_model::{self, Layout};
 
+use super::cart::CartDecode;
+
 pub const COMPONENTS: [&str; 3] = ["Y", "Cb", "Cr"];
 
-/// What a call answered, and the list after it.
+/// What a call answered, and the list after it, which over the C face may also be one of bytes.
 #[derive(PartialEq)]
-struct Decoded<'a> {
-    told: Told,
-    list: &'a [i32],
-    inside: bool,
+pub struct Decoded<'a, T> {
+    pub told: Told,
+    pub list: &'a [T],
+    pub inside: bool,
 }
 
-impl fmt::Display for Decoded<'_> {
+impl<T: Item> fmt::Display for Decoded<'_, T> {
     fn fmt(&self, f: &mut fmt::Formatter<'_>) -> fmt::Result {
         let Told { number, component, bits } = self.told;
         write!(f, "answer {}, component {}, bits {:?}, ", number, component, bits)?;
-        match as_it_was(self.list, old_coefficient) {
-            true => write!(f, "list as it was")?,
-            false => write!(f, "list {}", shown_list(self.list))?,
-        }
-        write!(f, "{}", if self.inside { "" } else { ", and coefficients outside the list changed" })
-    }
-}
-
-/// What the Rust gave: blocks or the number of its error.
-type Theirs = Option<Result<Vec<i32>, u32>>;
-
-fn told_theirs(theirs: &Theirs, bits: Option<usize>) -> String {
-    match (theirs, bits) {
-        (None, _) => "panicked".to_string(),
-        (Some(Err(number)), _) => format!("the error of refusal {}", number),
-        (Some(Ok(list)), None) => format!("list {}", shown_list(list)),
-        (Some(Ok(list)), Some(bits)) => format!("{} bits of Cr, list {}", bits, shown_list(list)),
+        write!(f, "{}", told_list("list", self.list, self.inside))
     }
 }
 
@@ -53,7 +41,7 @@ type Exact = [Vec<i64>; 3];
 
 /// Whether refusal 8 is explained: a whole number of the component is out of range, and where the Rust, which
 /// goes on there, gives blocks, they have it too. Below 2^30 none of its sums and symbols has wrapped.
-fn explains_8(layout: &Layout, component: usize, exact: &Exact, theirs: &Theirs) -> bool {
+fn explains_8(layout: &Layout, component: usize, exact: &Exact, theirs: &Theirs<i32>) -> bool {
     let Some(list) = component.checked_sub(1).and_then(|component| exact.get(component)) else { return false };
     let Some(scanned) = list.iter().position(|&value| !model::in_range(value)) else { return false };
     match theirs {
@@ -76,6 +64,7 @@ fn listed_difference(payloads: [&[u8]; 3], bits: [usize; 3], exact: &Exact) -> b
 
 pub struct Decode {
     check: Check,
+    pub cart: CartDecode,
     /// How often each component was refused with each of 5 to 8.
     named: [[u64; 4]; 3],
     payloads: [Lent; 3],
@@ -88,6 +77,7 @@ impl Decode {
         let check = Check::new("decode_slice", &[0, 1, 2, 5, 6, 7, 8, 13]);
         Decode {
             check: check.with_listed_difference().and_to("document 01's rules"),
+            cart: CartDecode::new(),
             named: [[0; 4]; 3],
             payloads: [(); 3].map(|()| Lent::new(&[])),
             list: Lent::new(&[]),
@@ -100,11 +90,12 @@ impl Decode {
         for (name, met) in COMPONENTS.iter().zip(self.named) {
             (5..).zip(met).for_each(|(number, times)| report.meet(times, &format!("refusal {} of {}", number, name)));
         }
+        self.cart.close(report);
     }
 
     /// Decodes into a list of any length, and tells what the proved code answered.
     pub fn ask(&mut self, payloads: [&[u8]; 3], shape: Shape, length: usize) -> Told {
-        let old: Vec<i32> = (0..length).map(old_coefficient).collect();
+        let old = old(length);
         self.payloads.iter_mut().zip(payloads).for_each(|(lent, payload)| lent.set(payload));
         self.list.set(&old);
         let [y, cb, cr] = &self.payloads;
@@ -121,16 +112,12 @@ impl Decode {
             let [y, cb, cr] = payloads.map(shown);
             format!("decode {}, into a list of {}, from Y {}; Cb {}; Cr {}", shape, length, y, cb, cr)
         };
+        self.cart.ask(payloads, shape, &ours, size, case);
         let layout = match slice_model::decode_arguments(payloads, shape, length) {
             Ok(layout) => layout,
-            // the Rust has no such rules, and a count far past them would only take its memory
             Err(number) => {
                 let theirs = Decoded { told: Told { number, component: 0, bits: [0; 3] }, list: &old, inside: true };
-                let by_rule = if ours == theirs { Verdict::Equal } else { Verdict::Differs };
-                let refused = if told.number == 0 { Verdict::Differs } else { Verdict::OurRule };
-                for (place, verdict) in [(MORE, by_rule), (PLAIN, refused), (REAL, refused)] {
-                    self.check.judge(place, size, verdict, || told_both(case(), &ours, "by rule", &theirs));
-                }
+                self.check.hold_to_refusal(size, told.number, &ours, &theirs, case);
                 return told;
             }
         };
@@ -145,35 +132,20 @@ impl Decode {
             Err((component, number)) => Told { number, component, bits: [0; 3] },
         };
         let theirs = Decoded { told: told_by_rule, list: &list, inside: true };
-        let verdict = if ours == theirs { Verdict::Equal } else { Verdict::Differs };
-        self.check.judge(MORE, size, verdict, || told_both(case(), &ours, "by rule", &theirs));
+        self.check.hold_to_rules(size, &ours, &theirs, case);
 
         let exact = &self.exact;
-        let explained = |theirs: &Theirs| told.number == 8 && explains_8(&layout, told.component, exact, theirs);
+        let explained = |theirs: &_| told.number == 8 && explains_8(&layout, told.component, exact, theirs);
+        let same = |theirs: &Theirs<i32>| matches!(theirs, Some(Ok(list)) if list == ours.list);
         let tell = |theirs| told_both(case(), &ours, "oracle", &theirs);
-
         let theirs = guarded(|| plain::decode_slice(payloads, shape));
+        // those of Cr, which is read last
         let bits = oracle_plain::bitstream::bits_read();
-        let verdict = match (told.number, &theirs) {
-            (0, Some(Ok(list))) if list == ours.list && bits == told.bits[2] => Verdict::Equal,
-            (5..=7, &Some(Err(number))) if number == told.number => Verdict::Equal,
-            _ if explained(&theirs) => Verdict::OurRule,
-            (_, None) => Verdict::Fault,
-            _ => Verdict::Differs,
-        };
+        let verdict = by_error(told.number, &theirs, same(&theirs) && bits == told.bits[2], explained(&theirs));
         self.check.judge(PLAIN, size, verdict, || tell(told_theirs(&theirs, Some(bits))));
-
         let theirs = guarded(|| real::decode_slice(payloads, shape));
-        let listed = told.number == 0 && listed_difference(payloads, told.bits, exact);
-        let verdict = match (told.number, &theirs) {
-            // the listed difference is one in each direction: where it is said to be, it must be
-            (0, Some(Err(_))) if listed => Verdict::Listed,
-            (0, Some(Ok(list))) if !listed && list == ours.list => Verdict::Equal,
-            (5..=7, Some(Err(_))) => Verdict::Equal,
-            _ if explained(&theirs) => Verdict::OurRule,
-            (_, None) => Verdict::Fault,
-            _ => Verdict::Differs,
-        };
+        let listed = listed_difference(payloads, told.bits, exact);
+        let verdict = by_any_error(told.number, &theirs, same(&theirs), explained(&theirs), listed);
         self.check.judge(REAL, size, verdict, || tell(told_theirs(&theirs, None)));
         told
     }

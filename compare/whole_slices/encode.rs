@@ -4,31 +4,33 @@
 // Both oracles give three codes, and those must be the three parts of our buffer, each from the byte behind
 // the last. The bits of a code are counted by the coefficient coder of the Rust over plain bits, from the list
 // that the model scans. The refusals 13, 1, 2, 4 and 3, the bytes beyond the code and the bound on it are
-// document 01's: oracle/slice_model.rs has them. What is written must also be read back.
+// document 01's: oracle/slice_model.rs has them. What is written must also be read back. Of all calls a sample is
+// made over the C face as well (cart.rs).
 use std::fmt;
 
-use crate::cases::{as_it_was, old_byte, shown, shown_list, Lent};
+use crate::lent::{old, shown, size_of, told_list, Lent};
 use crate::model;
 use crate::oracles::{plain, real};
 use crate::probe_slices::{self, Decoded, Encoded as Told};
-use crate::report::{guarded, told_both, Check, Report, Size, Verdict, MORE, PLAIN, REAL};
+use crate::report::{guarded, told_both, Check, Report, Verdict, MORE};
 use crate::shape::Shape;
 use crate::slice_model::{self, Layout};
 
+use super::cart::CartEncode;
 use super::decode::Decode;
 
 /// What a call answered, and the buffer after it.
 #[derive(PartialEq)]
-struct Encoded {
-    told: Told,
-    buffer: Vec<u8>,
-    inside: bool,
+pub struct Encoded {
+    pub told: Told,
+    pub buffer: Vec<u8>,
+    pub inside: bool,
 }
 
 impl Encoded {
-    fn refused(number: u32, needed: usize, room: usize) -> Self {
+    pub fn refused(number: u32, needed: usize, room: usize) -> Self {
         let told = Told { number, bytes: [0; 3], bits: [0; 3], needed };
-        Encoded { told, buffer: (0..room).map(old_byte).collect(), inside: true }
+        Encoded { told, buffer: old(room), inside: true }
     }
 
     /// What document 01 makes of three codes and the room for them.
@@ -37,7 +39,8 @@ impl Encoded {
         if code.len() > room {
             return Encoded::refused(3, code.len(), room);
         }
-        let buffer = code.iter().copied().chain((code.len()..room).map(old_byte)).collect();
+        let mut buffer = old(room);
+        buffer[..code.len()].copy_from_slice(&code);
         let told = Told { number: 0, bytes: [0, 1, 2].map(|i| codes[i].len()), bits, needed: 0 };
         Encoded { told, buffer, inside: true }
     }
@@ -55,11 +58,7 @@ impl fmt::Display for Encoded {
     fn fmt(&self, f: &mut fmt::Formatter<'_>) -> fmt::Result {
         let Told { number, bytes, bits, needed } = self.told;
         write!(f, "answer {}, bytes {:?}, bits {:?}, needed {}, ", number, bytes, bits, needed)?;
-        match as_it_was(&self.buffer, old_byte) {
-            true => write!(f, "buffer as it was")?,
-            false => write!(f, "buffer {}", shown(&self.buffer))?,
-        }
-        write!(f, "{}", if self.inside { "" } else { ", and bytes outside the buffer changed" })
+        write!(f, "{}", told_list("buffer", &self.buffer, self.inside))
     }
 }
 
@@ -76,6 +75,7 @@ fn sizes_fit(ours: &Encoded, scanned: &[Vec<i32>; 3]) -> bool {
 
 pub struct Encode {
     check: Check,
+    pub cart: CartEncode,
     source: Lent<i32>,
     buffer: Lent,
 }
@@ -85,6 +85,7 @@ impl Encode {
         let check = Check::new("encode_slice", &[0, 1, 2, 3, 4, 13]);
         Encode {
             check: check.and_to("document 01's rules, and read back as the blocks"),
+            cart: CartEncode::new(),
             source: Lent::new(&[]),
             buffer: Lent::new(&[]),
         }
@@ -92,6 +93,7 @@ impl Encode {
 
     pub fn close(self, report: &mut Report) {
         report.close(self.check);
+        self.cart.close(report);
     }
 
     /// Encodes into a buffer with room to the byte or, on demand, into others too, and has `decode` read the codes
@@ -136,21 +138,18 @@ impl Encode {
     fn refused(&mut self, list: &[i32], shape: Shape, room: usize, number: u32) {
         let ours = self.encoded(list, shape, room);
         let theirs = Encoded::refused(number, 0, room);
-        let (size, case) = (size_of(list, room), || case_of(list, shape, room));
+        let case = || case_of(list, shape, room);
         self.check.count(ours.told.number);
-        let by_rule = if ours == theirs { Verdict::Equal } else { Verdict::Differs };
-        let refused = if ours.told.number == 0 { Verdict::Differs } else { Verdict::OurRule };
-        for (place, verdict) in [(MORE, by_rule), (PLAIN, refused), (REAL, refused)] {
-            self.check.judge(place, size, verdict, || told_both(case(), &ours, "by rule", &theirs));
-        }
+        self.check.hold_to_refusal(size_of(list, room), ours.told.number, &ours, &theirs, case);
     }
 
     fn encoded(&mut self, list: &[i32], shape: Shape, room: usize) -> Encoded {
-        let old: Vec<u8> = (0..room).map(old_byte).collect();
         self.source.set(list);
-        self.buffer.set(&old);
+        self.buffer.set(&old(room));
         let told = probe_slices::encode_slice(self.source.items(), shape, self.buffer.items_mut());
-        Encoded { told, buffer: self.buffer.items().to_vec(), inside: self.buffer.guards_stand() }
+        let ours = Encoded { told, buffer: self.buffer.items().to_vec(), inside: self.buffer.guards_stand() };
+        self.cart.ask(list, shape, &ours, || size_of(list, room), || case_of(list, shape, room));
+        ours
     }
 }
 
@@ -161,13 +160,6 @@ fn reads_back(ours: &Encoded, list: &[i32], shape: Shape, decode: &mut Decode) -
     told == Decoded { number: 0, component: 0, bits: ours.told.bits } && decode.list() == list
 }
 
-/// Fewer coefficients are smaller, then fewer that are not 0, then smaller ones, then less room.
-fn size_of(list: &[i32], room: usize) -> Size {
-    let magnitudes: u64 = list.iter().map(|value| u64::from(value.unsigned_abs())).sum();
-    let at = list.iter().filter(|&&value| value != 0).count();
-    Size { bytes: list.len(), at, width: (magnitudes << 16) + room as u64 }
-}
-
 fn case_of(list: &[i32], shape: Shape, room: usize) -> String {
-    format!("encode {}, from a list of {}, {}, into {} bytes", shape, list.len(), shown_list(list), room)
+    format!("encode {}, from a list of {}, {}, into {} bytes", shape, list.len(), shown(list), room)
 }

@@ -1,11 +1,11 @@
 -- Laws of `bitsOf`: how many bits bytes have, and the bits of their parts.
 -- Assumes nothing.
 use mathlib.Core.Path.{_≡_, refl, sym, ap, _∙_}
-use mathlib.Core.Bool.{Bool, false}
+use mathlib.Core.Bool.{Bool}
 use mathlib.Core.List.{List, [], _∷_, _++_, append-assoc}
-use Prim.Native.Nat.{ℕ, zero, suc, _+_, _*_, _<_}
+use Prim.Native.Nat.{ℕ, zero, suc, _+_, _*_}
 use native.Mathlib.Omega.{arith}
-use lib.ListN.{length, getD, take, drop, length-append}
+use lib.ListN.{length, take, drop, length-append}
 use lib.Seq.{take-nil, drop-nil, take-append-add, drop-append-add}
 use Rattle.bitstream.specs.Bits.{field, bitsOf}
 use Rattle.bitstream.proofs.FieldLaws.{length-field}

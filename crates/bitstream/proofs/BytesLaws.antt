@@ -6,7 +6,7 @@ use mathlib.Core.List.{List, [], _∷_, _++_, append-assoc, append-nil}
 use Prim.Native.Nat.{ℕ, zero, suc, _+_, _-_, _*_, _%_, _^_, _≤_, _<_}
 use native.Mathlib.Nat.{zero-add, suc-add, sub-zero, zero-sub, suc-sub-suc, not-suc-le-zero, le-of-suc-le-suc, le-refl, mul-one, mod-eq-of-lt}
 use native.Mathlib.Omega.{arith}
-use lib.ListN.{length, getD, take, drop, length-append, length-drop, length-replicate, replicate-append-replicate, drop-of-length-le}
+use lib.ListN.{length, getD, take, drop, length-append, length-drop, replicate-append-replicate, drop-of-length-le}
 use lib.Seq.{length-take-le, take-append-le, drop-append-le, take-append-seam, drop-append-add, drop-drop}
 use Rattle.bitstream.specs.Bits.{field, number, bitsOf, zeros}
 use Rattle.bitstream.specs.Bytes.{bytesFor, bytes, pack, stored}
@@ -150,17 +150,6 @@ unfolding pack
 pack-bits s b =
     let e : bytesFor (length (bitsOf s)) ≡ length s = omega (arith, length-bits s) in
     ap (λ (n : ℕ). bytes n (bitsOf s)) e ∙ bytes-bits s b
-
--- zero bits up to a byte change nothing
-pub pack-pad : (bs : List Bool) → pack (bs ++ zeros (8 * bytesFor (length bs) - length bs)) ≡ pack bs
-pack-pad bs = ap pack (sym (bits-pack bs)) ∙ pack-bits (pack bs) (pack-lt bs)
-
--- a code behind one that is padded to a byte: their bytes stand side by side
-pub pack-aligned : (bs cs : List Bool) → pack ((bs ++ zeros (8 * bytesFor (length bs) - length bs)) ++ cs) ≡ pack bs ++ pack cs
-pack-aligned bs cs =
-    let n : ℕ = 8 * bytesFor (length bs) - length bs in
-    let l : length (bs ++ zeros n) ≡ 8 * bytesFor (length bs) = omega (arith, length-append bs (zeros n), length-replicate n false) in
-    pack-whole (bs ++ zeros n) cs (bytesFor (length bs)) l ∙ ap (λ (p : List ℕ). p ++ pack cs) (pack-pad bs)
 
 -- ---- stored
 

@@ -1,12 +1,12 @@
 -- What the definitions give, by computation: document 01's section Bits, and its rows on four and five zero bytes.
 -- Assumes nothing.
 use mathlib.Core.Path.{_≡_, refl}
-use mathlib.Core.Bool.{Bool, true, false}
-use mathlib.Core.List.{List, [], _∷_, _++_}
+use mathlib.Core.Bool.{true, false}
+use mathlib.Core.List.{[], _∷_, _++_}
 use lib.ListN.{drop}
 use Rattle.bitstream.specs.Bits.{field, number, bitsOf, zeros, ended}
 use Rattle.bitstream.specs.Bytes.{bytes, pack, stored, putAt}
-use Rattle.bitstream.specs.Reading.{got, refused, readField, readBits, zeroPrefix}
+use Rattle.bitstream.specs.Reading.{readField, readBits, zeroPrefix}
 use Rattle.bitstream.specs.Told.{gives, refusal, within, outcomeAt}
 
 -- the most significant bit of a byte comes first, and bytes in order

@@ -9,7 +9,7 @@ use native.Mathlib.Numerals.{one-add, add-one}
 use native.Mathlib.Omega.{arith}
 use lib.Dec.{eqb}
 use lib.ListN.{length, getD, take, drop, length-append, length-take, length-drop, take-append-drop}
-use lib.Seq.{length-take-le, take-suc}
+use lib.Seq.{take-suc}
 use lib.Pow as P
 use lib.Pow.{pow-pos, pow-mono, pow-add, shr-shr, high, low, mod-pow-add, mod-mod-pow}
 use borrow.Author.Tests.{eqb-true, eqb-false}

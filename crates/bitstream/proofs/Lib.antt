@@ -2,7 +2,9 @@ pub mod FieldLaws
 pub mod BitsLaws
 pub mod BytesLaws
 pub mod PutLaws
+pub mod DoingLaws
 pub mod ReadLaws
+pub mod AnswerLaws
 pub mod PlaceLaws
 pub mod MachineLaws
 pub mod Unique

@@ -1,12 +1,12 @@
 -- The laws of a reader of elements, once for all: no count is left in them. They ask that a step that moves leaves fewer bits.
 -- Assumes nothing.
-use Prim.Native.Nat.{ℕ, zero, suc, _≤_, _<_}
+use Prim.Native.Nat.{ℕ, zero, suc, _<_}
 use native.Mathlib.Omega.{arith}
 use mathlib.Core.Path.{_≡_, refl, ap, _∙_}
 use mathlib.Core.Bool.{Bool}
-use mathlib.Core.List.{List, [], _∷_, _++_}
+use mathlib.Core.List.{List, _++_}
 use lib.ListN.{length}
-use Rattle.bitstream.specs.Machine.{Step, moved, stop, refuses, Out, accepted, rejected, going, onStep, elements, from}
+use Rattle.bitstream.specs.Machine.{Step, moved, stop, refuses, Out, rejected, onStep, elements, from}
 
 module _ {S O : Type 0} (step : S → List Bool → Step S O) (finish : S → List O → List Bool → Out S O)
     (shrinks : (st : S) (bs : List Bool) (s : S) (o : List O) (t : List Bool) → step st bs ≡ moved s o t → length t < length bs) where

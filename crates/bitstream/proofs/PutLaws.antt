@@ -1,21 +1,21 @@
 -- Laws of `putAt`, `storedFrom` and `Puts`: to write on behind a code, by bits and by bytes.
 -- Assumes nothing.
 use mathlib.Core.Path.{_≡_, refl, sym, ap, ap₂, _∙_, subst}
-use mathlib.Core.Bool.{Bool, false}
+use mathlib.Core.Bool.{Bool}
 use mathlib.Core.List.{List, [], _++_, append-assoc}
 use Prim.Native.Nat.{ℕ, zero, suc, _+_, _-_, _*_, _/_, _%_, _^_, _≤_, _<_}
 use native.Mathlib.Nat.{lt-of-lt-of-le, mod-lt, mod-mod}
 use native.Mathlib.Numerals.{add-one}
 use native.Mathlib.Omega.{arith}
-use lib.ListN.{length, getD, take, drop, set, length-append, length-replicate, take-append-drop}
+use lib.ListN.{length, getD, take, drop, set, length-append, take-append-drop}
 use lib.Pow.{pow-pos, pow-mono, shr-lt, shl-lt}
 use lib.Seq.{length-take-le, take-append-le, take-at, take-add, take-suc-set, drop-set-lt, drop-cons, append-snoc, set-split}
-use Rattle.bitstream.specs.Bits.{field, bitsOf, zeros}
-use Rattle.bitstream.specs.Bytes.{bytesFor, pack, stored, putAt}
+use Rattle.bitstream.specs.Bits.{field, bitsOf}
+use Rattle.bitstream.specs.Bytes.{pack, stored, putAt}
 use Rattle.bitstream.specs.Puts.{Holds, Puts, storedFrom, Begun}
 use Rattle.bitstream.proofs.FieldLaws.{length-field, field-split, field-join, field-cong}
 use Rattle.bitstream.proofs.BitsLaws.{length-bits, bits-take, bits-drop}
-use Rattle.bitstream.proofs.BytesLaws.{Bytes, take-lt, pack-byte, pack-last, pack-bits, pack-pad, stored-none, stored-stored, stored-whole, bits-stored}
+use Rattle.bitstream.proofs.BytesLaws.{Bytes, take-lt, pack-byte, pack-last, pack-bits, stored-none, stored-stored, stored-whole, bits-stored}
 
 -- ---- putAt
 
@@ -49,26 +49,14 @@ puts-of e p f =
           };
     }
 
+pub puts-at : {e e′ : List ℕ} {p p′ : ℕ} {bs : List Bool} → p′ ≡ p + length bs → e′ ≡ putAt e p bs → Puts e p bs e′ p′
+puts-at {e} {e′} {p} {p′} {bs} n b = rw (n, b) (puts-of e p bs)
+
 pub puts-then : {e e₁ e₂ : List ℕ} {p p₁ p₂ : ℕ} {a b : List Bool} → Puts e p a e₁ p₁ → Puts e₁ p₁ b e₂ p₂ → Puts e p (a ++ b) e₂ p₂
 puts-then {e} {e₁} {e₂} {p} {p₁} {p₂} {a} {b} x y =
     record {
       next = omega (arith, x .next, y .next, length-append a b);
       held = λ old bs H. subst (λ (l : List Bool). Holds old l e₂ p₂) (append-assoc bs a b) (y .held old (bs ++ a) (x .held old bs H));
-    }
-
--- the bits up to a byte's end are there already, as zeros: moving the position on is putting them
-pub puts-align : (e : List ℕ) (p : ℕ) → Puts e p (zeros (8 * bytesFor p - p)) e (8 * bytesFor p)
-unfolding stored
-puts-align e p =
-    let k : ℕ = 8 * bytesFor p - p in
-    record {
-      next = omega (arith, length-replicate k false);
-      held = λ old bs H.
-          record {
-            is = H .is ∙ ap (λ (l : List ℕ). l ++ drop (length l) old) (sym (pack-pad bs))
-                ∙ ap (λ (n : ℕ). stored old (bs ++ zeros (8 * bytesFor n - n))) (H .count);
-            count = omega (arith, length-append bs (zeros k), length-replicate k false, H .count);
-          };
     }
 
 -- ---- storedFrom: byte by byte

@@ -1,15 +1,14 @@
 -- Laws of reading: a field, a prefix of zeros, and what an answer says of the bits.
 -- Assumes nothing.
 use mathlib.Core.Path.{_≡_, refl, sym, ap, ap₂, _∙_, subst}
-use mathlib.Core.Bool.{Bool, true, false, cond}
+use mathlib.Core.Bool.{Bool, true, false}
 use mathlib.Core.List.{List, [], _∷_, _++_, append-assoc}
-use Prim.Native.Nat.{ℕ, zero, suc, _+_, _-_, _*_, _/_, _%_, _^_, _≤_, _<_}
-use native.Mathlib.Nat.{mod-eq-of-lt, add-zero}
+use Prim.Native.Nat.{ℕ, zero, suc, _+_, _-_, _^_, _≤_, _<_}
+use native.Mathlib.Nat.{mod-eq-of-lt}
 use native.Mathlib.Numerals.{add-one}
 use native.Mathlib.Omega.{arith}
 use native.Mathlib.Decide.{decLe}
-use lib.Dec.{leb}
-use lib.ListN.{length, getD, take, drop, length-append, length-drop, length-replicate, take-append-drop, drop-of-length-le}
+use lib.ListN.{length, getD, take, drop, length-append, length-drop, take-append-drop, drop-of-length-le}
 use lib.Seq.{take-at, drop-at, length-take-le, drop-cons, drop-append-seam, drop-drop}
 use borrow.Author.Tests.{le-leb, lt-leb}
 use Rattle.bitstream.specs.Bits.{field, number, bitsOf, zeros}

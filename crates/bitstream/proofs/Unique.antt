@@ -3,10 +3,10 @@
 use mathlib.Core.Path.{_≡_, refl, sym, ap, _∙_}
 use mathlib.Core.Bool.{Bool, cond}
 use mathlib.Core.List.{List}
-use Prim.Native.Nat.{ℕ, _+_, _*_}
+use Prim.Native.Nat.{ℕ}
 use lib.Dec.{eqb}
 use lib.ListN.{drop}
-use Rattle.bitstream.specs.Bits.{field, bitsOf, ended}
+use Rattle.bitstream.specs.Bits.{bitsOf, ended}
 use Rattle.bitstream.specs.Reading.{readBits, zeroPrefix}
 use Rattle.bitstream.specs.Told.{numberOf, Outcome, gives, refusal, told, outcomeAt}
 use Rattle.bitstream.specs.declared.Cursor.{Cursor}

@@ -1,8 +1,9 @@
 -- A reader of elements, whatever the elements are: it steps until no element is due. Document 01, "Refusal numbers": an element is a DC codeword, a
 -- run, a level with its sign, an alpha difference or an alpha run, and the first refusal met in bit order stands.
 use Prim.Native.Nat.{ℕ, zero, suc}
+use mathlib.Core.Path.{_≡_}
 use mathlib.Core.Bool.{Bool}
-use mathlib.Core.List.{List, [], _∷_, _++_}
+use mathlib.Core.List.{List, _++_}
 use lib.ListN.{length}
 
 -- one element: the state after it, the values that it settles, the bits after it; or no element is due; or the number of a refusal
@@ -16,6 +17,11 @@ pub data Out (S O : Type 0) : Type 0 where
   accepted : List O → List Bool → Out S O
   rejected : ℕ → List Bool → Out S O
   going : S → List O → List Bool → Out S O
+
+-- o is the refusal n, wherever the refused element began
+pub record Rejects {S O : Type 0} (n : ℕ) (o : Out S O) : Type 0 where
+  pub bits : List Bool
+  pub is : o ≡ rejected n bits
 
 module _ {S O : Type 0} (step : S → List Bool → Step S O) (finish : S → List O → List Bool → Out S O) where
   abbrev pub onStep : Step S O → S → List O → List Bool → (S → List O → List Bool → Out S O) → Out S O

@@ -1,12 +1,11 @@
 -- What the answers of the code say, by document 01's numbers ("Refusal numbers"), and what they are to say.
-use Prim.Native.Nat.{ℕ, _+_, _-_}
+use Prim.Native.Nat.{ℕ, _+_, _-_, _≤_}
 use mathlib.Core.Bool.{Bool, cond}
 use mathlib.Core.List.{List}
 use lib.Dec.{leb}
 use lib.ListN.{length, drop}
 use Rattle.bitstream.specs.Bits.{bitsOf}
 use Rattle.bitstream.specs.Reading.{Parsed, got, refused, Reader}
-use Rattle.bitstream.specs.declared.Cursor.{Cursor}
 use Rattle.bitstream.specs.declared.Refusal.{Refusal}
 use Rattle.bitstream.specs.declared.Refusal.the-variants.{Limit, Length, Value as BadValue, Short, Codeword, Overrun, Range, LongRun, AlphaOverrun, Tail, Padding, Selector}
 use Rattle.bitstream.specs.declared.Read.{Read}
@@ -15,6 +14,11 @@ use Rattle.bitstream.specs.declared.Read.the-variants.{Value, No}
 -- a payload to decode has at most this many bytes
 abbrev pub payloadLimit : ℕ
 payloadLimit = 65536
+
+-- a bit of such a payload, or its end
+pub record Placed (p : List ℕ) (at : ℕ) : Type 0 where
+  pub fits : length p ≤ payloadLimit
+  pub within : at ≤ length (bitsOf p)
 
 abbrev pub numberOf : Refusal → ℕ
 numberOf Limit = 1

@@ -1,7 +1,7 @@
 // What stands at a bit position of a payload.
 ghost use mathlib.Core.Path.{_≡_};
 ghost use mathlib.Core.Bool.{false};
-ghost use Prim.Native.Nat.{_+_, _-_, _*_, _%_, _^_, _≤_, _<_};
+ghost use Prim.Native.Nat.{_+_, _-_, _*_, _%_, _≤_, _<_};
 ghost use lib.ListN.{length, getD, take, drop};
 ghost use Rattle.bitstream.specs.Bits.{bitsOf, number, ended};
 ghost use Rattle.bitstream.specs.Told.{payloadLimit};

@@ -1,9 +1,9 @@
 // The bit layer: document 01, section Bits, and the limit on a payload. Reading goes by a slice and a Cursor by value, as the Rust's BitReader
 // does by itself; writing is in bitwriter.
 ghost use mathlib.Core.Path.{_≡_};
-ghost use Prim.Native.Nat.{_+_, _*_, _/_, _^_, _≤_, _<_};
+ghost use Prim.Native.Nat.{_≤_};
 ghost use lib.ListN.{length, drop};
-ghost use Rattle.bitstream.specs.Bits.{field, bitsOf, ended};
+ghost use Rattle.bitstream.specs.Bits.{bitsOf, ended};
 ghost use Rattle.bitstream.specs.Reading.{readBits, zeroPrefix};
 ghost use Rattle.bitstream.specs.Told.{payloadLimit, numberOf, told, outcome, outcomeAt};
 
@@ -57,6 +57,12 @@ pub struct Cursor {
 
 pub enum Read {
     Value { value: u32, next: Cursor },
+    No(Refusal),
+}
+
+// Where a reading of many elements stands: behind a bit, or refused.
+pub enum Reached {
+    At(usize),
     No(Refusal),
 }
 

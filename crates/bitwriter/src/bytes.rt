@@ -1,7 +1,7 @@
 // Whole bytes into a lent buffer.
 ghost use mathlib.Core.Path.{_≡_};
-ghost use Prim.Native.Nat.{ℕ, _+_, _-_, _*_, _/_, _%_, _^_, _≤_, _<_};
-ghost use lib.ListN.{length, take, getD, set};
+ghost use Prim.Native.Nat.{_+_, _*_, _≤_, _<_};
+ghost use lib.ListN.{length, set};
 ghost use Rattle.bitstream.specs.Bits.{field};
 ghost use Rattle.bitstream.specs.Puts.{storedFrom, Begun};
 

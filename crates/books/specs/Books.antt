@@ -1,6 +1,6 @@
 -- The choice of codebook: document 01, "Choice of codebook"; RDD 36, Tables 9 to 11. E(k) is `ExpGolomb k`, C(q, r, e) is `RiceExp q r e`.
 use Prim.Native.Nat.{ℕ}
-use mathlib.Core.Bool.{Bool, cond}
+use mathlib.Core.Bool.{cond}
 use lib.Dec.{leb}
 use Rattle.codeword.specs.declared.Codebook.{Codebook}
 use Rattle.codeword.specs.declared.Codebook.the-variants.{ExpGolomb, RiceExp}

@@ -3,126 +3,68 @@
 //     z AT CAP HEX    zero_prefix                         ZEROS NEXT
 //     e AT HEX        end_of_data                         1 or 0
 //     p AT N V HEX    put into a buffer that holds HEX    NEXT HEX, the buffer after
+// A refusal is `refused K`.
 ghost use mathlib.Core.Path.{_≡_};
+ghost use mathlib.Core.Bool.{true};
 ghost use Prim.Native.Nat.{min};
-ghost use Rattle.cases.specs.Answers.{AnswersRead, AnswersUpTo, AnswersBuffer};
 use bitstream::Cursor;
 use bitstream::Read;
-use lines::answer::Answer;
-use lines::text;
-use lines::text::Bytes;
-use lines::text::Number;
-
-// The words of r and z.
-enum Case {
-    Is { at: usize, n: u32, len: usize },
-    Bad,
-}
 
 // A number as a u32. The largest u32 stands for all above it: no N is right there, and no payload has so many zeros.
-fn narrow(n: u64) -> u32
+fn narrow(n: usize) -> u32
     ensures { λ r. ⌜ r ≡ min n 4294967295 ⌝ }
 {
     if n < 4294967296 { n as u32 } else { u32::MAX }
 }
 
-fn read_case(line: &[u8], payload: &mut [u8]) -> Case {
-    let Number::Is(at, at_end) = text::read_decimal(line, 1) else {
-        return Case::Bad;
-    };
-    let Number::Is(n, n_end) = text::read_decimal(line, at_end) else {
-        return Case::Bad;
-    };
-    let Bytes::Are(len) = text::read_hex(line, n_end, payload) else {
-        return Case::Bad;
-    };
-    Case::Is {
-        at: at as usize,
-        n: narrow(n),
-        len,
-    }
-}
-
-fn answer_of(read: Read) -> Answer
-    ensures { λ r. ⌜ AnswersRead r ⌝ }
+fn tell(read: Read) -> bool
+    ensures { λ r. ⌜ r ≡ true ⌝ }
 {
     match read {
-        Read::Value { value, next } => Answer::Pair(value as u64, next.at as u64),
-        Read::No(why) => Answer::Refused(why.number() as u64),
+        Read::Value { value, next } => {
+            answers::first(value as usize);
+            answers::next(next.at)
+        }
+        Read::No(why) => answers::refused(why.number()),
     }
 }
 
-pub fn read_bits(line: &[u8], payload: &mut [u8]) -> Answer
-    ensures { λ r. ⌜ AnswersRead r ⌝ }
+pub fn read_bits(at: usize, n: usize, payload: &[u8]) -> bool
+    ensures { λ r. ⌜ r ≡ true ⌝ }
 {
-    let Case::Is { at, n, len } = read_case(line, payload) else {
-        return Answer::BadLine;
-    };
-    answer_of(Cursor { at }.read_bits(text::first(payload, len), n))
+    tell(Cursor { at }.read_bits(payload, narrow(n)))
 }
 
-pub fn zero_prefix(line: &[u8], payload: &mut [u8]) -> Answer
-    ensures { λ r. ⌜ AnswersRead r ⌝ }
+pub fn zero_prefix(at: usize, cap: usize, payload: &[u8]) -> bool
+    ensures { λ r. ⌜ r ≡ true ⌝ }
 {
-    let Case::Is { at, n, len } = read_case(line, payload) else {
-        return Answer::BadLine;
-    };
-    answer_of(Cursor { at }.zero_prefix(text::first(payload, len), n))
+    tell(Cursor { at }.zero_prefix(payload, narrow(cap)))
 }
 
-pub fn end_of_data(line: &[u8], payload: &mut [u8]) -> Answer
-    ensures { λ r. ⌜ AnswersUpTo 1 r ⌝ }
+pub fn end_of_data(at: usize, payload: &[u8]) -> bool
+    ensures { λ r. ⌜ r ≡ true ⌝ }
 {
-    let Number::Is(at, at_end) = text::read_decimal(line, 1) else {
-        return Answer::BadLine;
-    };
-    let Bytes::Are(len) = text::read_hex(line, at_end, payload) else {
-        return Answer::BadLine;
-    };
-    let cursor = Cursor { at: at as usize };
-    if cursor.end_of_data(text::first(payload, len)) {
-        return Answer::Number(1);
-    }
-    Answer::Number(0)
+    let cursor = Cursor { at };
+    answers::first(cursor.end_of_data(payload) as usize)
 }
 
 // What bitwriter::put requires of its caller is tested here, in the order of the refusals' numbers.
-fn put_field(buf: &mut [u8], at: u64, n: u64, v: u64) -> Answer
-    ensures { λ r. ⌜ AnswersBuffer r ⌝ }
+pub fn put(at: usize, n: usize, v: usize, buf: &mut [u8]) -> bool
+    ensures { λ r. ⌜ r ≡ true ⌝ }
 {
     if 56 < n {
-        return Answer::Refused(1);
+        return answers::refused(1);
     }
     if bitstream::PAYLOAD_LIMIT < buf.len() {
-        return Answer::Refused(1);
+        return answers::refused(1);
     }
-    let bits = 8 * buf.len() as u64;
+    let bits = 8 * buf.len();
     if bits < n {
-        return Answer::Refused(3);
+        return answers::refused(3);
     }
     if bits - n < at {
-        return Answer::Refused(3);
+        return answers::refused(3);
     }
-    Answer::Buffer {
-        next: bitwriter::put(buf, at as usize, n as u32, v) as u64,
-        len: buf.len(),
-    }
-}
-
-pub fn put(line: &[u8], payload: &mut [u8]) -> Answer
-    ensures { λ r. ⌜ AnswersBuffer r ⌝ }
-{
-    let Number::Is(at, at_end) = text::read_decimal(line, 1) else {
-        return Answer::BadLine;
-    };
-    let Number::Is(n, n_end) = text::read_decimal(line, at_end) else {
-        return Answer::BadLine;
-    };
-    let Number::Is(v, v_end) = text::read_decimal(line, n_end) else {
-        return Answer::BadLine;
-    };
-    let Bytes::Are(len) = text::read_hex(line, v_end, payload) else {
-        return Answer::BadLine;
-    };
-    put_field(text::first_mut(payload, len), at, n, v)
+    answers::first(bitwriter::put(buf, at, n as u32, v as u64));
+    answers::bytes(buf)
 }

@@ -144,9 +144,6 @@ code-spelled (RiceExp q r e) n f h = go (decLe ((q + 1) * 2 ^ r) n)
 length-form : (z w v : ℕ) → length (zeros z ++ true ∷ field w v) ≡ z + 1 + w
 length-form z w v = omega (arith, length-append (zeros z) (true ∷ field w v), length-replicate z false, length-field w v)
 
-pub spelled-length : (cb : Codebook) (n z v : ℕ) → Spelled cb n z v → length (code cb n) ≡ z + 1 + width cb z
-spelled-length cb n z v s = ap length (code-form cb n z v s) ∙ length-form z (width cb z) v
-
 pub code-length : (cb : Codebook) (n : ℕ) → Fit cb → n < 2 ^ 32 → length (code cb n) ≡ codeLength cb n
 unfolding code codeLength combo
 code-length (ExpGolomb k) n f h = exp-length k n f h

@@ -25,3 +25,13 @@ pub record OneMore (len value : ℕ) (bit : Bool) (len′ value′ : ℕ) : Type
   pub count : len′ ≡ len + 1
   pub fits : value′ < 2 ^ len′
   pub small : value′ < 2 ^ 34
+
+-- the bits are the len low bits of value, which put::put_word takes
+pub record WordOf (bits : List Bool) (len value : ℕ) : Type 0 where
+  pub is : field len value ≡ bits
+  pub fits : value < 2 ^ len
+  pub small : value < 2 ^ 34
+  pub short : len ≤ 69
+
+abbrev pub IsWord : ℕ → ℕ → Type 0
+IsWord len value = WordOf (field len value) len value

@@ -1,6 +1,5 @@
 // Codewords: document 01, section Codewords; the first half of entropy.rs.
 ghost use mathlib.Core.Path.{_≡_};
-ghost use Prim.Native.Nat.{_+_, _≤_, _<_};
 ghost use Rattle.bitstream.specs.Told.{told, outcomeAt};
 ghost use Rattle.codeword.specs.Codewords.{code, readCode};
 ghost use Rattle.codeword.specs.Words.{InUse};

@@ -49,10 +49,6 @@ pub minus-one-sub-pos : (n : ℕ) → negsuc 0 -ℤ pos n ≡ negsuc n
 minus-one-sub-pos zero = refl
 minus-one-sub-pos (suc n) = ap negsuc (omega arith)
 
-pub negsuc-neg : (m : ℕ) → 0 < m → negsuc (m - 1) ≡ negℤ (pos m)
-negsuc-neg zero h = absurd (omega arith)
-negsuc-neg (suc n) h = ap negsuc (omega arith)
-
 pub add-back : (a c : ℤ) → a +ℤ (c -ℤ a) ≡ c
 add-back a c = +ℤ-comm a (c -ℤ a) ∙ -ℤ-+ℤ-cancel c a
 

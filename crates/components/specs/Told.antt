@@ -1,7 +1,6 @@
 -- What the answers of the slice coder say: the component and document 01's number for each case.
-use Prim.Native.Nat.{ℕ}
 use Rattle.bitstream.specs.Told.{numberOf}
-use Rattle.components.specs.Shapes.{Components, BlocksAnswer, counts, unknown}
+use Rattle.components.specs.Shapes.{BlocksAnswer, counts, unknown}
 use Rattle.components.specs.Encoding.{Size, EncodeAnswer, wrote, needs, declines}
 use Rattle.components.specs.Decoding.{SliceAnswer, readAll, refuseIn}
 use Rattle.components.specs.declared.Blocks.{Blocks}

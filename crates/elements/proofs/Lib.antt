@@ -4,3 +4,5 @@ pub mod SizeLaws
 pub mod RangeLaws
 pub mod ValueLaws
 pub mod ValueExamples
+pub mod AnswerLaws
+pub mod Unique

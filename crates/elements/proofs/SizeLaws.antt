@@ -1,14 +1,13 @@
 -- The length of a code: it is the sum of its elements' lengths, and at most 2w + 5 bits for each coefficient below 2^w.
 -- Assumes nothing.
-use Prim.Native.Nat.{ℕ, zero, suc, _+_, _-_, _*_, _^_, _≤_, _<_}
+use Prim.Native.Nat.{ℕ, zero, suc, _+_, _*_, _^_, _≤_, _<_}
 use native.Mathlib.Nat.{mul-le-mul-right}
 use native.Mathlib.Omega.{arith}
 use mathlib.Core.Path.{_≡_, refl, sym, ap, ap₂, _∙_, subst}
-use mathlib.Core.Bool.{Bool, true, false}
-use mathlib.Core.List.{List, [], _∷_, _++_}
+use mathlib.Core.Bool.{Bool, false}
+use mathlib.Core.List.{List, [], _∷_}
 use lib.IntN.{ℤ, pos, negsuc, natAbs, _-ℤ_}
 use lib.ListN.{length, length-append}
-use lib.Pow.{pow-pos, pow-mono}
 use Rattle.common.proofs.Integers.{natAbs-sub}
 use Rattle.codeword.specs.Codewords.{code, codeLength}
 use Rattle.books.specs.Books.{firstBook, dcBook, runBook, levelBook}

@@ -1,19 +1,19 @@
 -- One step of the decoder: it reads the element that was written, and a step that moves takes a bit at least.
 -- Assumes nothing.
-use Prim.Native.Nat.{ℕ, zero, suc, _+_, _-_, _*_, _^_, _≤_, _<_}
+use Prim.Native.Nat.{ℕ, _-_, _*_, _^_, _≤_, _<_}
 use native.Mathlib.Omega.{arith}
-use mathlib.Core.Path.{_≡_, refl, sym, ap, ap₂, _∙_}
+use mathlib.Core.Path.{_≡_, refl, ap, ap₂, _∙_}
 use mathlib.Core.Bool.{Bool, true, false, cond, _||_}
 use mathlib.Core.List.{List, [], _∷_, _++_}
 use lib.Dec.{eqb, leb, ltb}
-use lib.IntN.{ℤ, pos, negsuc, natAbs, _+ℤ_, _-ℤ_}
+use lib.IntN.{ℤ, natAbs, _+ℤ_, _-ℤ_}
 use lib.ListN.{length, length-append}
 use borrow.Author.Tests.{le-leb, lt-ltb, ne-eqb}
 use Rattle.common.proofs.Choices.{cond-yes, cond-no}
 use Rattle.common.proofs.Integers.{add-back, natAbs-sub}
 use Rattle.bitstream.specs.Bits.{ended}
 use Rattle.bitstream.specs.Reading.{Parsed, got, refused}
-use Rattle.bitstream.specs.Machine.{Step, moved, stop, refuses, from, onStep, rejected, accepted}
+use Rattle.bitstream.specs.Machine.{moved, stop, refuses, from, rejected, accepted}
 use Rattle.bitstream.proofs.MachineLaws as M
 use Rattle.codeword.specs.Codewords.{code, readCode}
 use Rattle.books.specs.Books.{firstBook, dcBook, runBook, levelBook}
@@ -26,7 +26,7 @@ use Rattle.books.proofs.BookLaws.{firstBook-in-use}
 use Rattle.codeword.proofs.ReadCodeLaws.{read-code, code-read}
 use Rattle.signs.proofs.SignLaws.{integer-symbol, turned-turned, natAbs-turned, symbol-le}
 use Rattle.elements.specs.Limits.{most}
-use Rattle.elements.specs.Decoding.{nil, State, first, next, run, level, StepC, OutC, onRead, afterDc, dcTo, nextTo, runTo, signed, levelTo, step, leftOf, finish}
+use Rattle.elements.specs.Decoding.{nil, State, first, next, run, level, StepC, onRead, afterDc, dcTo, nextTo, runTo, signed, levelTo, step, leftOf, finish}
 
 -- ---- symbols are below 2^32
 
@@ -144,9 +144,6 @@ step-shrinks (run l rb lb) bs s o t e =
 step-shrinks (level l rb lb) bs s o t e = read-shrinks lb bs _ (λ n u s o t. level-shrinks l rb n u s o t) s o t e
 
 -- ---- the laws of a reader of elements, at this coder
-
-pub from-step : (st : State) (out : List ℤ) (bs : List Bool) → from step finish st out bs ≡ onStep step finish (step st bs) st out bs (from step finish)
-from-step = M.from-step step finish step-shrinks
 
 pub from-moved : (st : State) (out : List ℤ) (bs : List Bool) (s : State) (o : List ℤ) (t : List Bool) → step st bs ≡ moved s o t
     → from step finish st out bs ≡ from step finish s (out ++ o) t

@@ -2,13 +2,13 @@
 -- Assumes nothing.
 use mathlib.Core.Path.{_≡_, refl, ap, _∙_}
 use mathlib.Core.Bool.{Bool, true, false, cond}
-use Prim.Native.Nat.{ℕ, suc, _-_, _≤_, _<_}
+use Prim.Native.Nat.{ℕ, _-_, _≤_, _<_}
 use native.Mathlib.Omega.{arith}
-use lib.Dec.{leb, ltb}
-use lib.IntN.{ℤ, pos, negsuc, natAbs, _+ℤ_, _-ℤ_}
-use borrow.Author.Tests.{le-leb, lt-leb, leb-true, lt-ltb, le-ltb, ltb-true}
+use lib.Dec.{leb}
+use lib.IntN.{ℤ, pos, negsuc, natAbs, _-ℤ_}
+use borrow.Author.Tests.{le-leb, lt-leb, leb-true, lt-ltb, le-ltb}
 use Rattle.common.proofs.Integers.{add-back}
-use Rattle.signs.specs.Signs.{isNegative, symbolOf, integerOf, turned}
+use Rattle.signs.specs.Signs.{isNegative, symbolOf, turned}
 use Rattle.signs.proofs.SignLaws.{integer-symbol, turned-turned}
 use Rattle.elements.specs.Limits.{most}
 use Rattle.elements.specs.Decoding.{signed}
@@ -33,14 +33,6 @@ dc-range z neg m {x} {b} {n} e = by (leb (natAbs z) most) refl e
     by true t q = let same : z ≡ x = cc in rw (← same) (leb-true (natAbs z) most t)
     by false t q = let clash : _≡_ {A = ℕ} 0 1 = cc in omega arith
 
-pub first-range : (s : ℕ) {x : ℤ} {b : Bool} {n : ℕ} → firstDc s ≡ Is x b n → natAbs x ≤ most
-unfolding firstDc
-first-range s e = dc-range (integerOf s) false 3 e
-
-pub next-range : (dc : ℤ) (neg : Bool) (s : ℕ) {x : ℤ} {b : Bool} {n : ℕ} → nextDc dc neg s ≡ Is x b n → natAbs x ≤ most
-unfolding nextDc
-next-range dc neg s e = let d = turned neg (integerOf s) in dc-range (dc +ℤ d) (isNegative d) (natAbs d) e
-
 -- the encoder's symbols, read
 pub first-symbol : (z : ℤ) → natAbs z ≤ most → firstDc (symbolOf z) ≡ Is z false 3
 unfolding firstDc
@@ -61,21 +53,9 @@ pub level-out : (neg : Bool) (s : ℕ) → most ≤ s → levelOf neg s ≡ Leve
 unfolding levelOf
 level-out neg s h = simp (le-ltb s most h)
 
-pub natAbs-signed : (neg : Bool) (s : ℕ) → natAbs (signed neg s) ≡ suc s
-natAbs-signed true s = refl
-natAbs-signed false s = refl
-
 pub signed-natAbs : (z : ℤ) → 0 < natAbs z → signed (isNegative z) (natAbs z - 1) ≡ z
 signed-natAbs (pos n) h = ap pos (omega arith)
 signed-natAbs (negsuc n) h = ap negsuc (omega arith)
-
-pub level-range : (neg : Bool) (s : ℕ) {x : ℤ} → levelOf neg s ≡ LevelIs x → natAbs x ≤ most
-unfolding levelOf
-level-range neg s {x} e = by (ltb s most) refl e
-  where
-    by : (t : Bool) → ltb s most ≡ t → cond t (LevelIs (signed neg s)) LevelOut ≡ LevelIs x → natAbs x ≤ most
-    by true t q = let same : signed neg s ≡ x = cc in rw (← same) (omega (arith, natAbs-signed neg s, ltb-true s most t))
-    by false t q = let clash : _≡_ {A = ℕ} 0 1 = cc in omega arith
 
 pub level-back : (z : ℤ) → 0 < natAbs z → natAbs z ≤ most → levelOf (isNegative z) (natAbs z - 1) ≡ LevelIs z
 level-back z h k = level-is (isNegative z) (natAbs z - 1) (omega arith) ∙ ap LevelIs (signed-natAbs z h)

@@ -1,7 +1,7 @@
 -- What decoding and encoding answer, by document 01's numbers, and what each lent buffer then holds: document 01, "Refusal numbers" and the limits.
-use Prim.Native.Nat.{ℕ, _+_, _-_, _*_, _^_}
-use mathlib.Core.Bool.{Bool, true, false, cond, _&&_}
-use mathlib.Core.List.{List, [], _∷_}
+use Prim.Native.Nat.{ℕ, _-_, _*_}
+use mathlib.Core.Bool.{Bool, cond, _&&_}
+use mathlib.Core.List.{List}
 use lib.Dec.{leb, eqb}
 use lib.IntN.{ℤ}
 use lib.ListN.{length}

@@ -1,5 +1,5 @@
 -- The reading of scanned coefficients, an element at a time: document 01, "Choice of codebook", AC, and refusals 5 to 8.
-use Prim.Native.Nat.{ℕ, zero, suc, _+_, _-_, _*_, _^_}
+use Prim.Native.Nat.{ℕ, zero, suc, _-_, _*_}
 use mathlib.Core.Bool.{Bool, true, false, cond, _||_}
 use mathlib.Core.List.{List, [], _∷_, _++_}
 use lib.Dec.{leb, ltb, eqb}
@@ -7,7 +7,7 @@ use lib.IntN.{ℤ, pos, negsuc, natAbs, _+ℤ_}
 use lib.ListN.{replicate}
 use Rattle.bitstream.specs.Bits.{ended}
 use Rattle.bitstream.specs.Reading.{Parsed, got, refused}
-use Rattle.bitstream.specs.Machine.{Step, moved, stop, refuses, Out, accepted, rejected, going, from}
+use Rattle.bitstream.specs.Machine.{Step, moved, stop, refuses, Out, accepted, from}
 use Rattle.codeword.specs.Codewords.{readCode}
 use Rattle.books.specs.Books.{firstBook, dcBook, runBook, levelBook}
 use Rattle.signs.specs.Signs.{isNegative, integerOf, turned}

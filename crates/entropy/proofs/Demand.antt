@@ -1,27 +1,27 @@
 -- What is demanded of the coder above everything, as theorems over the definitions that the two public functions are held to, for 0 to 32 blocks:
 -- the count of bits, the size bound, exact room, and that every coefficient comes back.
 -- Assumes nothing.
-use Prim.Native.Nat.{ℕ, zero, suc, _+_, _-_, _*_, _/_, _^_, _≤_, _<_}
+use Prim.Native.Nat.{ℕ, zero, suc, _+_, _-_, _*_, _^_, _≤_, _<_}
 use native.Mathlib.Nat.{le-trans, mul-le-mul}
 use native.Mathlib.Omega.{arith}
-use mathlib.Core.Path.{_≡_, refl, sym, ap, ap₂, _∙_, subst}
-use mathlib.Core.Bool.{Bool, true, false, _&&_}
+use mathlib.Core.Path.{_≡_, refl, sym, ap, ap₂, _∙_}
+use mathlib.Core.Bool.{Bool, true, _&&_}
 use mathlib.Core.List.{List, [], _∷_, _++_, append-assoc, append-nil}
-use lib.IntN.{ℤ, natAbs}
-use lib.ListN.{length, take, replicate, length-append, length-replicate}
+use lib.IntN.{ℤ}
+use lib.ListN.{length, take, replicate, length-append}
 use lib.Pow.{pow-mono}
 use Rattle.bitstream.specs.Bits.{field, bitsOf, zeros, ended}
 use Rattle.bitstream.specs.Bytes.{bytesFor, pack, stored}
 use Rattle.bitstream.specs.Machine.{accepted}
 use Rattle.bitstream.specs.Told.{payloadLimit}
-use Rattle.bitstream.proofs.BitsLaws.{bits-append, length-bits}
+use Rattle.bitstream.proofs.BitsLaws.{bits-append}
 use Rattle.bitstream.proofs.BytesLaws.{bits-pack, length-pack, stored-payload}
 use Rattle.bitstream.proofs.PlaceLaws.{ended-append, ended-zeros}
 use Rattle.elements.specs.Elements.{size, elementsOf, encode}
-use Rattle.elements.specs.Limits.{most, inRange}
+use Rattle.elements.specs.Limits.{inRange}
 use Rattle.elements.specs.Decoding.{decode, OutC}
 use Rattle.elements.specs.Limits.{blockLimit}
-use Rattle.elements.specs.Answers.{Decoding, decoding, read, settled, decodeOf, Encoding, encoding, wrote, needs, encodeOf}
+use Rattle.elements.specs.Answers.{decoding, read, settled, decodeOf, Encoding, encoding, wrote, needs, encodeOf}
 use Rattle.elements.proofs.RoundTrip.{Small, decode-encode}
 use Rattle.elements.proofs.SizeLaws.{Below, encode-length, size-le}
 use Rattle.elements.specs.Limits.{Fine}

@@ -1,17 +1,18 @@
 -- Laws of `encodeOf`, case by case.
 -- Assumes nothing.
 use Prim.Native.Nat.{ℕ, _*_, _≤_, _<_}
-use mathlib.Core.Path.{_≡_, refl, sym}
-use mathlib.Core.Bool.{Bool, true, false, not}
-use mathlib.Core.List.{List, []}
+use mathlib.Core.Path.{_≡_, sym, _∙_}
+use mathlib.Core.Bool.{false}
+use mathlib.Core.List.{List}
 use lib.IntN.{ℤ}
 use lib.ListN.{length}
 use borrow.Author.Tests.{le-leb, lt-leb, eq-eqb, ne-eqb}
 use Rattle.bitstream.specs.Bytes.{bytesFor, stored}
-use Rattle.elements.specs.Elements.{bits, elementsOf, encode}
+use Rattle.elements.specs.Elements.{encode}
 use Rattle.elements.specs.Limits.{blockLimit, inRange}
 use Rattle.elements.specs.Answers.{encoding, wrote, needs, declines, written, encodeOf}
 use Rattle.elements.specs.Limits.{Fine}
+use Rattle.elements.proofs.AnswerLaws.{written-room, written-done}
 
 -- ---- refusals
 
@@ -37,26 +38,8 @@ module _ {b n : ℕ} {cs : List ℤ} (old : List ℕ) (f : Fine b cs) (counted :
   fine = simp (le-leb b blockLimit (f .few), eq-eqb (length cs) (64 * b) (f .full), f .small)
 
   pub encode-room : length old < bytesFor n → encoding (needs (bytesFor n)) old ≡ encodeOf cs b old
-  unfolding written
-  encode-room h = rw (fine, ← counted) (sym (simp (lt-leb (bytesFor n) (length old) h)))
+  encode-room h = written-room (encode b cs) old counted h ∙ sym fine
 
   pub encode-done : {r : ℕ} {buf : List ℕ} → bytesFor n ≤ length old → r ≡ length (encode b cs) → buf ≡ stored old (encode b cs)
       → encoding (wrote (bytesFor n) r) buf ≡ encodeOf cs b old
-  unfolding written
-  encode-done h e s = rw (fine, e, s, ← counted) (sym (simp (le-leb (bytesFor n) (length old) h)))
-
--- ---- the test of the range
-
-pub range-true : (cs : List ℤ) → not (inRange cs) ≡ false → inRange cs ≡ true
-range-true cs e = go (inRange cs) e
-  where
-    go : (x : Bool) → not x ≡ false → x ≡ true
-    go true e = refl
-    go false e = sym e
-
-pub range-false : (cs : List ℤ) → not (inRange cs) ≡ true → inRange cs ≡ false
-range-false cs e = go (inRange cs) e
-  where
-    go : (x : Bool) → not x ≡ true → x ≡ false
-    go true e = sym e
-    go false e = refl
+  encode-done h e s = written-done (encode b cs) old counted h e s ∙ sym fine

@@ -1,4 +1,3 @@
 pub mod DecodeLaws
 pub mod EncodeLaws
 pub mod Demand
-pub mod Unique

@@ -1,25 +1,16 @@
 // The scanned coefficient coder: document 01; the second half of entropy.rs.
 ghost use mathlib.Core.Path.{_≡_};
-ghost use Rattle.entropy.specs.Told.{toldDecoded, toldEncoded};
 ghost use Rattle.elements.specs.Answers.{decoding, decodeOf, encoding, encodeOf};
+ghost use Rattle.elements.specs.Told.{toldDecoded, toldEncoded};
+use bitstream::Reached;
 use bitstream::Refusal;
+use elements::Decoded;
+use elements::Encoded;
 use elements::range;
 use elements::zero;
-use reading::Reached;
 
 // The most blocks per call.
 pub const BLOCK_LIMIT: usize = 32;
-
-pub enum Decoded {
-    Done { bits: usize },
-    Refused(Refusal),
-}
-
-pub enum Encoded {
-    Done { bytes: usize, bits: usize },
-    Room { needed: usize }, // refusal 3
-    Refused(Refusal),
-}
 
 // Reads 64 x blocks scanned coefficients into out. A refusal of the arguments (1, 2) leaves out as it was; one of the payload (5 to 8) makes it
 // all zero.
@@ -58,6 +49,12 @@ pub fn encode_scanned_coefficients(coeffs: &[i32], blocks: usize, out: &mut [u8]
     }
     if range::out_of_range(coeffs) {
         return Encoded::Refused(Refusal::Value);
+    }
+    // a buffer with room for any list of this length needs no counting first
+    if 504 * blocks <= out.len() {
+        let done = writing::write(coeffs, blocks, out);
+        let bytes = (done + 7) / 8;
+        return Encoded::Done { bytes, bits: done };
     }
     let bits = writing::count(coeffs, blocks);
     let needed = (bits + 7) / 8;

@@ -1,20 +1,13 @@
 -- Laws of the outcomes over the bit layer, case by case.
 -- Assumes nothing.
-use mathlib.Core.Path.{_≡_, refl, sym, ap, _∙_}
-use mathlib.Core.Bool.{Bool, true, false}
+use mathlib.Core.Path.{_≡_, sym, ap, _∙_}
 use mathlib.Core.List.{List}
 use Prim.Native.Nat.{ℕ, _+_, _*_, _≤_, _<_}
 use lib.ListN.{length}
 use borrow.Author.Tests.{le-leb, lt-leb}
-use mir.Val.{boolByte}
-use Rattle.bitstream.specs.Bits.{field}
-use Rattle.bitstream.specs.Bytes.{bytesFor, putAt}
+use Rattle.bitstream.specs.Bytes.{bytesFor}
 use Rattle.bitstream.specs.Told.{payloadLimit, Outcome, gives, refusal}
-use Rattle.probe.specs.Bits.{resultOf, valueOf, nextOf, flagOf, putOutcome, putBuffer, alignOutcome, Answers}
-
-pub flag-byte : (b : Bool) → boolByte b ≡ flagOf b
-flag-byte true = refl
-flag-byte false = refl
+use Rattle.probe.specs.Bits.{resultOf, valueOf, nextOf, putOutcome, putBuffer, alignOutcome, Answers}
 
 -- an answer that says what x says, where x is y
 pub answers-as : {x : Outcome} {r v n : ℕ} (y : Outcome) → Answers x r v n → x ≡ y → (r ≡ resultOf y) × ((v ≡ valueOf y) × (n ≡ nextOf y))

@@ -2,7 +2,7 @@
 -- Assumes nothing.
 use mathlib.Core.Path.{_≡_, sym, ap, ap₂, _∙_}
 use mathlib.Core.Bool.{Bool}
-use mathlib.Core.List.{List, [], _∷_, _++_, append-nil}
+use mathlib.Core.List.{List, [], _++_, append-nil}
 use Prim.Native.Nat.{ℕ, _+_, _≤_, _<_}
 use native.Mathlib.Numerals.{add-one}
 use native.Mathlib.Omega.{arith}
@@ -18,7 +18,7 @@ use Rattle.quant.specs.declared.Choice.the-variants.{Blended, Refused}
 use Rattle.probe.specs.Matrices.{unknownEntry, entryAt, entryOf, tablesOf, pairs, pairTables, blendedTables, blendTables, scans, scanTables, flagsIn, wrongLength, flagsOf}
 use Rattle.probe.specs.declared.matrices.Entry.{Entry}
 use Rattle.probe.specs.declared.matrices.Flags.{Flags}
-use Rattle.probe.proofs.BitLaws.{flag-byte}
+use Rattle.numbers.proofs.FlagLaws.{flag-byte}
 
 -- ---- an entry
 

@@ -7,7 +7,8 @@ use mathlib.Core.List.{List}
 use Prim.Native.Nat.{ℕ}
 use Rattle.bitstream.specs.Told.{Outcome}
 use Rattle.quant.specs.Weights.{qscaleOf}
-use Rattle.probe.specs.Bits.{resultOf, valueOf, nextOf, flagOf, putOutcome, putBuffer, alignOutcome, Answers}
+use Rattle.numbers.specs.Numbers.{flagOf}
+use Rattle.probe.specs.Bits.{resultOf, nextOf, putOutcome, putBuffer, alignOutcome, Answers}
 use Rattle.probe.specs.declared.matrices.Entry.{Entry}
 use Rattle.probe.specs.declared.matrices.Flags.{Flags}
 

@@ -1,7 +1,7 @@
 -- What the functions over the bit layer give: a result and the numbers that come back.
 use Prim.Native.Nat.{ℕ, _+_, _*_}
 use mathlib.Core.Path.{_≡_}
-use mathlib.Core.Bool.{Bool, true, false, cond, _&&_}
+use mathlib.Core.Bool.{cond, _&&_}
 use mathlib.Core.List.{List}
 use lib.Dec.{leb}
 use lib.ListN.{length}
@@ -21,11 +21,6 @@ valueOf (refusal k) = 0
 abbrev pub nextOf : Outcome → ℕ
 nextOf (gives v p) = p
 nextOf (refusal k) = 0
-
--- a flag as a number
-abbrev pub flagOf : Bool → ℕ
-flagOf true = 1
-flagOf false = 0
 
 -- a field is put where it is at most 56 bits wide and there is room for it
 unfoldable pub putOutcome : List ℕ → ℕ → ℕ → Outcome

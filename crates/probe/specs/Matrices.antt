@@ -8,7 +8,7 @@ use lib.ListN.{length, getD}
 use Rattle.quant.specs.Scans.{scanOf, invOf}
 use Rattle.quant.specs.Weights.{weightsValid, loadLuma, loadChroma, isDefault, flatPair, perceptualPair, proxyPair, ltPair, standardPair, hqPair, BlendAnswer, blends, refuses, blendOf}
 use Rattle.quant.specs.declared.QuantMatrices.{QuantMatrices}
-use Rattle.probe.specs.Bits.{flagOf}
+use Rattle.numbers.specs.Numbers.{flagOf}
 use Rattle.probe.specs.declared.matrices.Entry.{Entry}
 use Rattle.probe.specs.declared.matrices.Flags.{Flags}
 

@@ -4,7 +4,8 @@ ghost use lib.ListN.{drop};
 ghost use Rattle.bitstream.specs.Bits.{bitsOf, ended};
 ghost use Rattle.bitstream.specs.Reading.{readBits, zeroPrefix};
 ghost use Rattle.bitstream.specs.Told.{told, outcomeAt};
-ghost use Rattle.probe.specs.Bits.{resultOf, valueOf, nextOf, flagOf, putOutcome, putBuffer, alignOutcome, Answers};
+ghost use Rattle.numbers.specs.Numbers.{flagOf};
+ghost use Rattle.probe.specs.Bits.{resultOf, valueOf, nextOf, putOutcome, putBuffer, alignOutcome, Answers};
 use bitstream::Cursor;
 use bitstream::Read;
 

@@ -2,50 +2,8 @@
 ghost use mathlib.Core.Path.{_≡_};
 ghost use Rattle.components.specs.Encoding.{encodeSliceOf};
 ghost use Rattle.components.specs.Decoding.{decodeSliceOf};
-ghost use Rattle.components.specs.Told.{toldEncoded, told};
-ghost use Rattle.probe.specs.Slices as S;
-ghost use Rattle.probe.specs.Slices.{encodeNumbers, decodeNumbers};
-use components::Code;
-use components::DecodedSlice;
-use components::EncodedSlice;
-
-// An encoding's answer taken apart.
-struct EncodeNumbers {
-    result: u32,
-    y: Code,
-    cb: Code,
-    cr: Code,
-    needed: usize,
-}
-
-fn nothing(result: u32, needed: usize) -> EncodeNumbers
-    ensures { λ r. ⌜ r ≡ S.nothing result needed ⌝ }
-{
-    let none = Code { bytes: 0, bits: 0 };
-    EncodeNumbers {
-        result,
-        y: none,
-        cb: none,
-        cr: none,
-        needed,
-    }
-}
-
-fn encode_numbers(e: EncodedSlice) -> EncodeNumbers
-    ensures { λ r. ⌜ r ≡ encodeNumbers (toldEncoded e) ⌝ }
-{
-    match e {
-        EncodedSlice::Done { y, cb, cr } => EncodeNumbers {
-            result: 0,
-            y,
-            cb,
-            cr,
-            needed: 0,
-        },
-        EncodedSlice::Room { needed } => nothing(3, needed),
-        EncodedSlice::Refused(why) => nothing(why.number(), 0),
-    }
-}
+ghost use Rattle.numbers.specs.Slices.{encodeNumbers, decodeNumbers};
+use numbers::slices;
 
 #[no_mangle]
 pub extern "C" fn probe_encode_slice(
@@ -69,7 +27,7 @@ pub extern "C" fn probe_encode_slice(
     ensures cr { λ _. ⌜ record { bytes = now («cr_bytes» .exit); bits = now («cr_bits» .exit) } ≡ encodeNumbers (encodeSliceOf (now (blocks .entry)) macroblocks chroma scan (now (out .entry)) .answer) .cr ⌝ }
     ensures needed { λ _. ⌜ now (needed .exit) ≡ encodeNumbers (encodeSliceOf (now (blocks .entry)) macroblocks chroma scan (now (out .entry)) .answer) .needed ⌝ }
 {
-    let numbers = encode_numbers(slice::encode_slice_components(
+    let numbers = slices::encode_numbers(slice::encode_slice_components(
         blocks,
         macroblocks,
         chroma,
@@ -89,45 +47,6 @@ pub extern "C" fn probe_encode_slice(
     numbers.result
 }
 
-// A decoding's answer taken apart.
-struct DecodeNumbers {
-    result: u32,
-    component: usize,
-    y: usize,
-    cb: usize,
-    cr: usize,
-}
-
-fn refused(component: usize, result: u32) -> DecodeNumbers
-    ensures { λ r. ⌜ r ≡ S.refused component result ⌝ }
-{
-    DecodeNumbers {
-        result,
-        component,
-        y: 0,
-        cb: 0,
-        cr: 0,
-    }
-}
-
-fn decode_numbers(d: DecodedSlice) -> DecodeNumbers
-    ensures { λ r. ⌜ r ≡ decodeNumbers (told d) ⌝ }
-{
-    match d {
-        DecodedSlice::Done { y, cb, cr } => DecodeNumbers {
-            result: 0,
-            component: 0,
-            y,
-            cb,
-            cr,
-        },
-        DecodedSlice::Refused(why) => refused(0, why.number()),
-        DecodedSlice::Y(why) => refused(1, why.number()),
-        DecodedSlice::Cb(why) => refused(2, why.number()),
-        DecodedSlice::Cr(why) => refused(3, why.number()),
-    }
-}
-
 #[no_mangle]
 pub extern "C" fn probe_decode_slice(
     y: &[u8],
@@ -145,7 +64,7 @@ pub extern "C" fn probe_decode_slice(
     ensures list { λ _. ⌜ now (blocks .exit) ≡ decodeSliceOf (now (y .entry)) (now (cb .entry)) (now (cr .entry)) macroblocks chroma scan (now (blocks .entry)) .list ⌝ }
     ensures numbers { λ r. ⌜ record { result = r; component = now (component .exit); y = now («y_bits» .exit); cb = now («cb_bits» .exit); cr = now («cr_bits» .exit) } ≡ decodeNumbers (decodeSliceOf (now (y .entry)) (now (cb .entry)) (now (cr .entry)) macroblocks chroma scan (now (blocks .entry)) .answer) ⌝ }
 {
-    let numbers = decode_numbers(slice::decode_slice_components(
+    let numbers = slices::decode_numbers(slice::decode_slice_components(
         y,
         cb,
         cr,

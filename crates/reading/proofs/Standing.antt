@@ -11,14 +11,14 @@ use lib.IntN.{ℤ, pos}
 use lib.ListN.{length, take, drop, set, length-drop, length-set, length-replicate, take-append-drop}
 use lib.Seq.{take-suc-set, take-add, drop-drop, drop-set-lt}
 use Rattle.bitstream.specs.Bits.{ended}
-use Rattle.bitstream.specs.Machine.{stop, from}
+use Rattle.bitstream.specs.Machine.{stop, Rejects, from}
 use Rattle.bitstream.specs.Told.{numberOf}
 use Rattle.bitstream.specs.declared.Refusal.{Refusal}
 use Rattle.books.specs.Books.{runBook, levelBook}
 use Rattle.codeword.specs.declared.Codebook.{Codebook}
 use Rattle.elements.specs.Decoding.{nil, State, first, next, run, afterDc, step, leftOf, finish, decode}
 use Rattle.elements.specs.Answers.{read, refuse, decoding, settled}
-use Rattle.reading.specs.Steps.{firstDue, dcDue, DcStepped, RunStepped, levelDue, LevelStepped, Rejects, fromRun, PairTo, PairStepped}
+use Rattle.reading.specs.Steps.{firstDue, dcDue, DcStepped, RunStepped, levelDue, LevelStepped, fromRun, PairTo, PairStepped}
 use Rattle.reading.specs.Steps.{Stands, DcsStand, AcsStand, behindDcs, answerOf}
 use Rattle.reading.specs.declared.Dcs.{Dcs}
 use Rattle.reading.specs.declared.DcStep.the-variants.{To, No}

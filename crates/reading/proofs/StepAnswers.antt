@@ -3,24 +3,24 @@
 -- Assumes nothing.
 use Prim.Native.Nat.{ℕ, _+_, _-_, _≤_, _<_}
 use native.Mathlib.Omega.{arith}
-use mathlib.Core.Path.{_≡_, refl, sym, ap, ap₂, _∙_}
+use mathlib.Core.Path.{_≡_, refl, ap, ap₂, _∙_}
 use mathlib.Core.Bool.{Bool, true, false, cond, _||_}
 use mathlib.Core.List.{List, [], _∷_}
 use lib.Dec.{leb, ltb, eqb}
 use lib.IntN.{ℤ, natAbs, _+ℤ_}
-use lib.ListN.{length, drop, length-drop}
+use lib.ListN.{length, drop}
 use borrow.Author.Tests.{lt-ltb, le-ltb, ne-eqb}
 use Rattle.common.proofs.Choices.{cond-yes, cond-no}
-use Rattle.bitstream.specs.Bits.{val, number, bitsOf, ended}
-use Rattle.bitstream.specs.Reading.{Parsed, got, refused, Reader, readField, readBits}
+use Rattle.bitstream.specs.Bits.{bitsOf, ended}
+use Rattle.bitstream.specs.Reading.{Parsed, got, refused, readBits}
 use Rattle.bitstream.specs.Machine.{moved, refuses}
-use Rattle.bitstream.specs.Told.{payloadLimit, numberOf, told, outcomeAt}
+use Rattle.bitstream.specs.Told.{Placed, numberOf, told, outcomeAt}
 use Rattle.bitstream.specs.declared.Cursor.{Cursor}
 use Rattle.bitstream.specs.declared.Refusal.{Refusal}
 use Rattle.bitstream.specs.declared.Refusal.the-variants.{Overrun, Range}
 use Rattle.bitstream.specs.declared.Read.{Read}
 use Rattle.bitstream.specs.declared.Read.the-variants.{Value, No as Unread}
-use Rattle.bitstream.proofs.ReadLaws.{Local, readBits-field, readField-all, readBits-local, told-got, told-refused}
+use Rattle.bitstream.proofs.AnswerLaws.{read-no, read-got, read-placed, bit-no, bit-got, bit-placed}
 use Rattle.codeword.specs.Codewords.{readCode}
 use Rattle.books.specs.Books.{firstBook, dcBook, runBook, levelBook}
 use Rattle.signs.specs.Signs.{isNegative, integerOf, turned}
@@ -29,7 +29,7 @@ use Rattle.codeword.proofs.ReadCodeLaws.{readCode-local}
 use Rattle.elements.specs.Limits.{most}
 use Rattle.elements.specs.Decoding.{nil, first, next, run, level, onRead, afterDc, dcTo, nextTo, runTo, signed, levelTo, step}
 use Rattle.elements.specs.Values.{dcOf, firstDc, nextDc, levelOf}
-use Rattle.reading.specs.Steps.{Placed, RunDue, firstDue, dcDue, dcStepOf, dcSays, DcKeeps, DcStepped, RunStepped, levelDue, signDue, LevelStepped}
+use Rattle.reading.specs.Steps.{RunDue, firstDue, dcDue, dcStepOf, dcSays, DcKeeps, DcStepped, RunStepped, levelDue, signDue, LevelStepped}
 use Rattle.elements.specs.declared.values.Dc.the-variants.{Is, Out}
 use Rattle.elements.specs.declared.values.Level.the-variants.{Is as LevelIs, Out as LevelOut}
 use Rattle.reading.specs.declared.Dcs.{Dcs}
@@ -118,65 +118,25 @@ module _ (left : ℕ) (rb lb : Codebook) (bs : List Bool) where
   unfolding step
   level-got s t e = ap (λ (x : Parsed). onRead x (λ s t. levelTo left rb s t)) e
 
--- a bit that was read
-bit-read : (g : Bool) (u : List Bool) → readBits 1 (g ∷ u) ≡ got (val g) u
-unfolding number
-bit-read true u = readBits-field 1 (true ∷ u) (omega arith) ∙ readField-all 1 (true ∷ u) (omega arith)
-bit-read false u = readBits-field 1 (false ∷ u) (omega arith) ∙ readField-all 1 (false ∷ u) (omega arith)
-
-val-eqb : (g : Bool) → g ≡ eqb (val g) 1
-val-eqb true = refl
-val-eqb false = refl
-
-bit-got : (bs : List Bool) (v : ℕ) (t : List Bool) → readBits 1 bs ≡ got v t → bs ≡ eqb v 1 ∷ t
-unfolding readBits readField
-bit-got [] v t e = absurd (let z : _≡_ {A = ℕ} 0 1 = cc in omega arith)
-bit-got (g ∷ u) v t e =
-    let x : got (val g) u ≡ got v t = sym (bit-read g u) ∙ e in
-    let a : val g ≡ v = cc in
-    let b : u ≡ t = cc in
-    ap₂ (λ (h : Bool) (l : List Bool). h ∷ l) (val-eqb g ∙ ap (λ (n : ℕ). eqb n 1) a) b
-
-module _ (left : ℕ) (rb : Codebook) (s : ℕ) where
-  sign-no : (bs : List Bool) (k : ℕ) → readBits 1 bs ≡ refused k → levelTo left rb s bs ≡ refuses k
-  unfolding readBits readField levelTo
-  sign-no [] k e = let a : 5 ≡ k = cc in ap refuses a
-  sign-no (g ∷ u) k e =
-      let x : got (val g) u ≡ refused k = sym (bit-read g u) ∙ e in
-      absurd (let z : _≡_ {A = ℕ} 0 1 = cc in omega arith)
-
-  sign-out : (bs : List Bool) (v : ℕ) (t : List Bool) → readBits 1 bs ≡ got v t → levelOf (eqb v 1) s ≡ LevelOut → levelTo left rb s bs ≡ refuses 8
+-- behind the level's symbol s, where the sign's bit is read
+module _ (left : ℕ) (rb : Codebook) (s v : ℕ) (bs t : List Bool) (e : bs ≡ eqb v 1 ∷ t) where
+  sign-out : levelOf (eqb v 1) s ≡ LevelOut → levelTo left rb s bs ≡ refuses 8
   unfolding levelTo levelOf
-  sign-out bs v t e o = ap (levelTo left rb s) (bit-got bs v t e) ∙ go (ltb s most) o
+  sign-out o = ap (levelTo left rb s) e ∙ go (ltb s most) o
     where
       go : (b : Bool) → cond b (LevelIs (signed (eqb v 1) s)) LevelOut ≡ LevelOut
           → cond b (moved (run (left - 1) rb (levelBook s)) (signed (eqb v 1) s ∷ []) t) (refuses 8) ≡ refuses 8
       go true q = absurd (let z : _≡_ {A = ℕ} 0 1 = cc in omega arith)
       go false q = refl
 
-  sign-got : (bs : List Bool) (v : ℕ) (t : List Bool) (x : ℤ) → readBits 1 bs ≡ got v t → levelOf (eqb v 1) s ≡ LevelIs x
-      → levelTo left rb s bs ≡ moved (run (left - 1) rb (levelBook s)) (x ∷ []) t
+  sign-got : (x : ℤ) → levelOf (eqb v 1) s ≡ LevelIs x → levelTo left rb s bs ≡ moved (run (left - 1) rb (levelBook s)) (x ∷ []) t
   unfolding levelTo levelOf
-  sign-got bs v t x e o = ap (levelTo left rb s) (bit-got bs v t e) ∙ go (ltb s most) o
+  sign-got x o = ap (levelTo left rb s) e ∙ go (ltb s most) o
     where
       go : (b : Bool) → cond b (LevelIs (signed (eqb v 1) s)) LevelOut ≡ LevelIs x
           → cond b (moved (run (left - 1) rb (levelBook s)) (signed (eqb v 1) s ∷ []) t) (refuses 8) ≡ moved (run (left - 1) rb (levelBook s)) (x ∷ []) t
       go true q = let a : signed (eqb v 1) s ≡ x = cc in ap (λ (z : ℤ). moved (run (left - 1) rb (levelBook s)) (z ∷ []) t) a
       go false q = absurd (let z : _≡_ {A = ℕ} 0 1 = cc in omega arith)
-
--- ---- what a reader told of a payload that is not too long
-
-module _ (m : Reader) (s : List ℕ) (p : ℕ) (r : Read) (h : length s ≤ payloadLimit) (e : told r ≡ outcomeAt m s p) where
-  read-no : {why : Refusal} → r ≡ Unread why → m (drop p (bitsOf s)) ≡ refused (numberOf why)
-  read-no {why} q = told-refused m s p h (numberOf why) (ap told (sym q) ∙ e)
-
-  read-got : {v : ℕ} {c : Cursor} → Local m → r ≡ Value v c → m (drop p (bitsOf s)) ≡ got v (drop (c .at) (bitsOf s))
-  read-got {v} {c} l q = told-got m s p l h v (c .at) (ap told (sym q) ∙ e) .0
-
-  read-within : {v : ℕ} {c : Cursor} → Local m → r ≡ Value v c → p ≤ length (bitsOf s) → c .at ≤ length (bitsOf s)
-  read-within {v} {c} l q b =
-      let t = told-got m s p l h v (c .at) (ap told (sym q) ∙ e) in
-      omega (arith, t .1, t .2, length-drop p (bitsOf s))
 
 -- ---- what the functions answer
 
@@ -186,20 +146,20 @@ module _ (p : List ℕ) (r : Read) where
 
   module _ (pl : Placed p 0) (e : told r ≡ outcomeAt (readCode firstBook) p 0) where
     pub first-stepped-no : (why : Refusal) → r ≡ Unread why → DcStepped B firstDue (No why)
-    first-stepped-no why q = record { is = λ more left. first-no more left B (numberOf why) (read-no (readCode firstBook) p 0 r (pl .fits) e q); keeps = tt }
+    first-stepped-no why q = record { is = λ more left. first-no more left B (numberOf why) (read-no (readCode firstBook) p 0 r pl e why q); keeps = tt }
 
     pub first-stepped : (v : ℕ) (c : Cursor) → r ≡ Value v c → DcStepped B firstDue (dcStepOf (firstDc v) (c .at))
     first-stepped v c q =
         record {
-          is = λ more left. first-got more left B B v (c .at) (read-got (readCode firstBook) p 0 r (pl .fits) e (readCode-local firstBook) q);
-          keeps = first-keeps B v (c .at) (read-within (readCode firstBook) p 0 r (pl .fits) e (readCode-local firstBook) q (pl .within));
+          is = λ more left. first-got more left B B v (c .at) (read-got (readCode firstBook) p 0 r pl e (readCode-local firstBook) v c q);
+          keeps = first-keeps B v (c .at) (read-placed (readCode firstBook) p 0 r pl e (readCode-local firstBook) v c q .within);
         }
 
   module _ (s : Dcs) (pl : Placed p (s .at)) (e : told r ≡ outcomeAt (readCode (s .book)) p (s .at)) where
     pub next-stepped-no : (why : Refusal) → r ≡ Unread why → DcStepped B (dcDue s) (No why)
     next-stepped-no why q =
         record {
-          is = λ more left. next-no more left (drop (s .at) B) (s .dc) (s .negative) (s .book) (numberOf why) (read-no (readCode (s .book)) p (s .at) r (pl .fits) e q);
+          is = λ more left. next-no more left (drop (s .at) B) (s .dc) (s .negative) (s .book) (numberOf why) (read-no (readCode (s .book)) p (s .at) r pl e why q);
           keeps = tt;
         }
 
@@ -208,8 +168,8 @@ module _ (p : List ℕ) (r : Read) where
         let l = readCode-local (s .book) in
         record {
           is = λ more left.
-              next-got more left (drop (s .at) B) (s .dc) (s .negative) (s .book) B v (c .at) (read-got (readCode (s .book)) p (s .at) r (pl .fits) e l q);
-          keeps = next-keeps B (s .dc) (s .negative) v (c .at) (read-within (readCode (s .book)) p (s .at) r (pl .fits) e l q (pl .within));
+              next-got more left (drop (s .at) B) (s .dc) (s .negative) (s .book) B v (c .at) (read-got (readCode (s .book)) p (s .at) r pl e l v c q);
+          keeps = next-keeps B (s .dc) (s .negative) v (c .at) (read-placed (readCode (s .book)) p (s .at) r pl e l v c q .within);
         }
 
   module _ (total : ℕ) (s : Acs) (pl : Placed p (s .at)) (due : RunDue (bitsOf p) total s) (e : told r ≡ outcomeAt (readCode (s .runs)) p (s .at)) where
@@ -219,13 +179,13 @@ module _ (p : List ℕ) (r : Read) where
     pub run-stepped-no : (why : Refusal) → r ≡ Unread why → RunStepped B total s (NoRun why)
     run-stepped-no why q =
         record {
-          is = run-no (total - s .place) (s .runs) (s .levels) (drop (s .at) B) some (due .more) (numberOf why) (read-no (readCode (s .runs)) p (s .at) r (pl .fits) e q);
+          is = run-no (total - s .place) (s .runs) (s .levels) (drop (s .at) B) some (due .more) (numberOf why) (read-no (readCode (s .runs)) p (s .at) r pl e why q);
           keeps = tt;
         }
 
     module _ (n : ℕ) (c : Cursor) (q : r ≡ Value n c) where
       taken : readCode (s .runs) (drop (s .at) B) ≡ got n (drop (c .at) B)
-      taken = read-got (readCode (s .runs)) p (s .at) r (pl .fits) e (readCode-local (s .runs)) q
+      taken = read-got (readCode (s .runs)) p (s .at) r pl e (readCode-local (s .runs)) n c q
 
       pub run-stepped-far : total - s .place ≤ n → RunStepped B total s (NoRun Overrun)
       run-stepped-far l = record { is = run-far (total - s .place) (s .runs) (s .levels) (drop (s .at) B) some (due .more) n (drop (c .at) B) taken l; keeps = tt }
@@ -240,47 +200,48 @@ module _ (p : List ℕ) (r : Read) where
             keeps = record {
               onward = omega arith;
               room = omega arith;
-              within = read-within (readCode (s .runs)) p (s .at) r (pl .fits) e (readCode-local (s .runs)) q (pl .within);
+              within = read-placed (readCode (s .runs)) p (s .at) r pl e (readCode-local (s .runs)) n c q .within;
             };
           }
 
   module _ (s : Acs) (symbol at : ℕ) (pl : Placed p at) (e : told r ≡ outcomeAt (readBits 1) p at) where
     pub sign-stepped-no : (why : Refusal) → r ≡ Unread why → LevelStepped B (s .place) (signDue s symbol at) (NoLevel why)
-    sign-stepped-no why q = record { is = λ left. sign-no left (s .runs) symbol (drop at B) (numberOf why) (read-no (readBits 1) p at r (pl .fits) e q); keeps = tt }
+    unfolding levelTo
+    sign-stepped-no why q = record { is = λ left. bit-no p at r pl e why q (levelTo left (s .runs) symbol) refl; keeps = tt }
 
     module _ (v : ℕ) (c : Cursor) (q : r ≡ Value v c) where
-      bit : readBits 1 (drop at B) ≡ got v (drop (c .at) B)
-      bit = read-got (readBits 1) p at r (pl .fits) e (readBits-local 1) q
+      bit : drop at B ≡ eqb v 1 ∷ drop (c .at) B
+      bit = bit-got p at r pl e v c q
 
       pub sign-stepped-out : levelOf (eqb v 1) symbol ≡ LevelOut → LevelStepped B (s .place) (signDue s symbol at) (NoLevel Range)
-      sign-stepped-out o = record { is = λ left. sign-out left (s .runs) symbol (drop at B) v (drop (c .at) B) bit o; keeps = tt }
+      sign-stepped-out o = record { is = λ left. sign-out left (s .runs) symbol v (drop at B) (drop (c .at) B) bit o; keeps = tt }
 
       pub sign-stepped : (x : ℤ) → levelOf (eqb v 1) symbol ≡ LevelIs x
           → LevelStepped B (s .place) (signDue s symbol at) (LevelTo x (record { at = c .at; place = s .place + 1; runs = s .runs; levels = levelBook symbol }))
       sign-stepped x o =
           record {
-            is = λ left. sign-got left (s .runs) symbol (drop at B) v (drop (c .at) B) x bit o;
-            keeps = record { onward = refl; within = read-within (readBits 1) p at r (pl .fits) e (readBits-local 1) q (pl .within) };
+            is = λ left. sign-got left (s .runs) symbol v (drop at B) (drop (c .at) B) bit x o;
+            keeps = record { onward = refl; within = bit-placed p at r pl e v c q .within };
           }
 
   module _ (s : Acs) (pl : Placed p (s .at)) (e : told r ≡ outcomeAt (readCode (s .levels)) p (s .at)) where
     pub level-stepped-no : (why : Refusal) → r ≡ Unread why → LevelStepped B (s .place) (levelDue s) (NoLevel why)
     level-stepped-no why q =
         record {
-          is = λ left. level-no left (s .runs) (s .levels) (drop (s .at) B) (numberOf why) (read-no (readCode (s .levels)) p (s .at) r (pl .fits) e q);
+          is = λ left. level-no left (s .runs) (s .levels) (drop (s .at) B) (numberOf why) (read-no (readCode (s .levels)) p (s .at) r pl e why q);
           keeps = tt;
         }
 
     module _ (v : ℕ) (c : Cursor) (q : r ≡ Value v c) where
       pub sign-placed : Placed p (c .at)
-      sign-placed = record { fits = pl .fits; within = read-within (readCode (s .levels)) p (s .at) r (pl .fits) e (readCode-local (s .levels)) q (pl .within) }
+      sign-placed = read-placed (readCode (s .levels)) p (s .at) r pl e (readCode-local (s .levels)) v c q
 
       -- the sign is read next
       pub level-stepped : (x : LevelStep) → LevelStepped B (s .place) (signDue s v (c .at)) x → LevelStepped B (s .place) (levelDue s) x
       level-stepped x l =
           record {
             is = λ left.
-                level-got left (s .runs) (s .levels) (drop (s .at) B) v (drop (c .at) B) (read-got (readCode (s .levels)) p (s .at) r (pl .fits) e (readCode-local (s .levels)) q)
+                level-got left (s .runs) (s .levels) (drop (s .at) B) v (drop (c .at) B) (read-got (readCode (s .levels)) p (s .at) r pl e (readCode-local (s .levels)) v c q)
                 ∙ l .is left;
             keeps = l .keeps;
           }

@@ -5,18 +5,18 @@ use mathlib.Core.Bool.{Bool, false}
 use mathlib.Core.List.{List, [], _∷_, _++_}
 use lib.IntN.{ℤ, natAbs}
 use lib.ListN.{length, take, drop}
-use Rattle.bitstream.specs.Machine.{moved, refuses, rejected, from}
-use Rattle.bitstream.specs.Bits.{bitsOf, ended}
-use Rattle.bitstream.specs.Told.{payloadLimit, numberOf}
+use Rattle.bitstream.specs.Machine.{moved, refuses, Rejects, from}
+use Rattle.bitstream.specs.Bits.{ended}
+use Rattle.bitstream.specs.Told.{numberOf}
 use Rattle.bitstream.specs.declared.Refusal.the-variants.{Range}
+use Rattle.bitstream.specs.declared.Reached.{Reached}
+use Rattle.bitstream.specs.declared.Reached.the-variants.{At, No as Stopped}
 use Rattle.books.specs.Books.{dcBook, runBook, levelBook}
 use Rattle.elements.specs.Limits.{most}
 use Rattle.elements.specs.Decoding.{nil, State, first, next, run, level, StepC, OutC, afterDc, levelTo, step, finish, decode}
 use Rattle.elements.specs.Answers.{read, refuse, Decoding, decoding, settled}
 use Rattle.elements.specs.declared.values.Dc.{Dc}
 use Rattle.elements.specs.declared.values.Dc.the-variants.{Is, Out}
-use Rattle.reading.specs.declared.Reached.{Reached}
-use Rattle.reading.specs.declared.Reached.the-variants.{At, No as Stopped}
 use Rattle.reading.specs.declared.Dcs.{Dcs}
 use Rattle.reading.specs.declared.DcStep.{DcStep}
 use Rattle.reading.specs.declared.DcStep.the-variants.{To, No}
@@ -27,11 +27,6 @@ use Rattle.reading.specs.declared.LevelStep.{LevelStep}
 use Rattle.reading.specs.declared.LevelStep.the-variants.{To as LevelTo, No as NoLevel}
 
 -- ---- what a step may ask for
-
--- a bit of a payload that is not too long, or its end
-pub record Placed (p : List ℕ) (at : ℕ) : Type 0 where
-  pub fits : length p ≤ payloadLimit
-  pub within : at ≤ length (bitsOf p)
 
 -- a run is due at s
 pub record RunDue (B : List Bool) (total : ℕ) (s : Acs) : Type 0 where
@@ -111,10 +106,6 @@ pub record LevelStepped (B : List Bool) (place : ℕ) (due : List Bool → ℕ �
   pub keeps : LevelKeeps B place r
 
 -- ---- a run and its level: what the reading goes on to, whatever came out before
-
-pub record Rejects (k : ℕ) (o : OutC) : Type 0 where
-  pub bits : List Bool
-  pub is : o ≡ rejected k bits
 
 abbrev pub fromRun : List Bool → ℕ → Acs → List ℤ → OutC
 fromRun B total s out = from step finish (run (total - s .place) (s .runs) (s .levels)) out (drop (s .at) B)

@@ -4,25 +4,20 @@ ghost use Prim.Native.Nat.{_*_, _≤_, _<_};
 ghost use lib.IntN.{natAbs};
 ghost use lib.ListN.{length};
 ghost use Rattle.bitstream.specs.Bits.{bitsOf};
-ghost use Rattle.bitstream.specs.Told.{payloadLimit};
+ghost use Rattle.bitstream.specs.Told.{payloadLimit, Placed};
 ghost use Rattle.elements.specs.Limits.{most};
 ghost use Rattle.elements.specs.Decoding.{nil};
 ghost use Rattle.elements.specs.Limits.{blockLimit};
-ghost use Rattle.reading.specs.Steps.{Placed, RunDue, dcStepOf, firstDue, dcDue, DcStepped, RunStepped, levelDue, signDue, LevelStepped, PairStepped};
+ghost use Rattle.reading.specs.Steps.{RunDue, dcStepOf, firstDue, dcDue, DcStepped, RunStepped, levelDue, signDue, LevelStepped, PairStepped};
 ghost use Rattle.reading.specs.Steps.{DcsStand, AcsStand, behindDcs, DcsRead, reachedSays, answerOf};
 use bitstream::Cursor;
+use bitstream::Reached;
 use bitstream::Read;
 use bitstream::Refusal;
 use codeword::Codebook;
 use elements::values;
 use elements::values::Dc;
 use elements::values::Level;
-
-// Where a reading stands: behind a bit, or refused.
-pub enum Reached {
-    At(usize),
-    No(Refusal),
-}
 
 // What the next DC looks back at: where it begins, the last DC, the last difference's sign and the codebook that its magnitude chose.
 struct Dcs {

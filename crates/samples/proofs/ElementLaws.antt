@@ -81,7 +81,7 @@ module _ (k : AlphaChannelType) (v c s : ℕ) (ss : List ℕ) where
 
 -- ---- lengths
 
-run-length : (n : ℕ) → length (runBits n) ≡ runLength n
+pub run-length : (n : ℕ) → length (runBits n) ≡ runLength n
 unfolding runBits runLength
 run-length n = go (eqb n 1) (leb n 16)
   where

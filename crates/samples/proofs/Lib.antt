@@ -6,5 +6,4 @@ pub mod RoundTrip
 pub mod SizeLaws
 pub mod WordLaws
 pub mod AnswerLaws
-pub mod Examples
 pub mod Unique

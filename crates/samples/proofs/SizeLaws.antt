@@ -1,7 +1,7 @@
 -- The length of a code: it is the sum of its elements' lengths, and at most w + 2 bits for each sample: 18 of kind 2, 10 of kind 1.
 -- Assumes nothing.
 use Prim.Native.Nat.{ℕ, suc, _+_, _-_, _*_, _^_, _≤_}
-use native.Mathlib.Nat.{mul-le-mul-left}
+use native.Mathlib.Nat.{mul-le-mul, mul-le-mul-left}
 use native.Mathlib.Omega.{arith}
 use mathlib.Core.Path.{_≡_, refl, ap, subst}
 use mathlib.Core.Bool.{Bool, true, false, cond, _&&_}
@@ -14,7 +14,7 @@ use Rattle.signs.specs.Signs.{isNegative}
 use Rattle.samples.specs.declared.AlphaChannelType.{AlphaChannelType}
 use Rattle.samples.specs.declared.AlphaChannelType.the-variants.{Eight, Sixteen}
 use Rattle.samples.specs.Kinds.{widthOf, limitOf}
-use Rattle.samples.specs.Limits.{runLimit}
+use Rattle.samples.specs.Limits.{sampleLimit, runLimit}
 use Rattle.samples.specs.Values.{residue}
 use Rattle.samples.specs.Elements.{smallElement, escapedElement, runElement, runLength, elementLength, size, differenceElement, runElements, elementsOf, encode}
 use Rattle.samples.proofs.KindLaws.{sizes}
@@ -41,7 +41,7 @@ run-le w n hw h = go (eqb n 1) (leb n 16) refl refl
     go false true ea eb = let p : (w + 2) * 2 ≤ (w + 2) * n = mul-le-mul-left (w + 2) (up (eqb-false n 1 ea)) in omega arith
     go false false ea eb = let p : (w + 2) * 17 ≤ (w + 2) * n = mul-le-mul-left (w + 2) (leb-false n 16 eb) in omega arith
 
-difference-le : (k : AlphaChannelType) (d : ℤ) → elementLength k (differenceElement k d) ≤ widthOf k + 1
+pub difference-le : (k : AlphaChannelType) (d : ℤ) → elementLength k (differenceElement k d) ≤ widthOf k + 1
 unfolding elementLength differenceElement
 difference-le k d = go (leb 1 (natAbs d) && leb (natAbs d) (limitOf k))
   where
@@ -79,6 +79,12 @@ size-le k (s ∷ ss) =
 
 pub encode-le : (k : AlphaChannelType) (ss : List ℕ) → length (encode k ss) ≤ (widthOf k + 2) * length ss
 encode-le k ss = omega (arith, encode-length k ss, size-le k ss)
+
+-- 18 bits for each sample of a call
+pub encode-most : (k : AlphaChannelType) (ss : List ℕ) → length ss ≤ sampleLimit → length (encode k ss) ≤ 294912
+encode-most k ss few =
+    let m : (widthOf k + 2) * length ss ≤ 18 * sampleLimit = mul-le-mul {n₁ = widthOf k + 2} {m₁ = length ss} {n₂ = 18} {m₂ = sampleLimit} (omega (arith, sizes k .width)) few in
+    omega (arith, encode-le k ss)
 
 pub eight-le : (ss : List ℕ) → length (encode Eight ss) ≤ 10 * length ss
 eight-le ss = encode-le Eight ss

@@ -9,11 +9,11 @@ use lib.Dec.{leb, ltb, eqb}
 use lib.Pow.{pow-pos}
 use lib.IntN.{ℤ, pos, natAbs, _-ℤ_}
 use lib.ListN.{length, replicate, length-append}
-use borrow.Author.Tests.{le-leb, lt-leb, leb-true, leb-false, le-ltb, lt-ltb, ne-eqb, eqb-true, eqb-false}
+use borrow.Author.Tests.{le-leb, leb-true, leb-false, le-ltb, lt-ltb, ne-eqb, eqb-true, eqb-false}
 use Rattle.common.proofs.Choices.{cond-yes, cond-no}
 use Rattle.bitstream.specs.Bits.{field, ended}
 use Rattle.bitstream.specs.Reading.{Parsed, got, refused, readField}
-use Rattle.bitstream.specs.Machine.{moved, stop, refuses, from, onStep, rejected, accepted}
+use Rattle.bitstream.specs.Machine.{moved, stop, refuses, from, rejected, accepted}
 use Rattle.bitstream.proofs.ReadLaws.{readField-field, field-readField}
 use Rattle.bitstream.proofs.MachineLaws as M
 use Rattle.signs.specs.Signs.{isNegative}
@@ -33,10 +33,6 @@ module _ (left v n : ℕ) (t : List Bool) where
   pub runTo-ok : n ≤ left → runTo left v n t ≡ moved (difference (left - n) (pos v)) (replicate n v) t
   unfolding runTo
   runTo-ok h = cond-yes _ _ (le-leb n left h)
-
-  pub runTo-over : left < n → runTo left v n t ≡ refuses 10
-  unfolding runTo
-  runTo-over h = cond-no _ _ (lt-leb n left h)
 
 module _ (left v f : ℕ) (t : List Bool) where
   pub longTo-low : f < 16 → longTo left v f t ≡ refuses 9
@@ -144,14 +140,6 @@ unfolding step
 step-end k p z = refl
 
 module _ (st : State) (out : List ℕ) (z : List Bool) where
-  pub finish-long : 7 < length z → finish st out z ≡ rejected 11 z
-  unfolding finish
-  finish-long h = cond-yes _ _ (lt-ltb 7 (length z) h)
-
-  pub finish-one : length z ≤ 7 → ended z ≡ false → finish st out z ≡ rejected 12 z
-  unfolding finish
-  finish-one h e = cond-no _ _ (le-ltb 7 (length z) h) ∙ cond-no _ _ e
-
   pub finish-ended : length z ≤ 7 → ended z ≡ true → finish st out z ≡ accepted out z
   unfolding finish
   finish-ended h e = cond-no _ _ (le-ltb 7 (length z) h) ∙ cond-yes _ _ e
@@ -228,10 +216,6 @@ step-shrinks k (run left v) bs s o t = runStep-shrinks left v bs s o t
 -- ---- the laws of a reader of elements, at this coder
 
 module _ (k : AlphaChannelType) where
-  pub from-step : (st : State) (out : List ℕ) (bs : List Bool)
-      → from (step k) finish st out bs ≡ onStep (step k) finish (step k st bs) st out bs (from (step k) finish)
-  from-step = M.from-step (step k) finish (step-shrinks k)
-
   pub from-moved : (st : State) (out : List ℕ) (bs : List Bool) (s : State) (o : List ℕ) (t : List Bool) → step k st bs ≡ moved s o t
       → from (step k) finish st out bs ≡ from (step k) finish s (out ++ o) t
   from-moved = M.from-moved (step k) finish (step-shrinks k)

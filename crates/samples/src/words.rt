@@ -1,5 +1,4 @@
 // Differences and runs as codewords.
-ghost use mathlib.Core.Path.{_≡_};
 ghost use Prim.Native.Nat.{_+_, _<_, _≤_};
 ghost use lib.IntN.{pos, _-ℤ_};
 ghost use Rattle.codeword.specs.Words.{Spells};

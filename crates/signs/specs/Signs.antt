@@ -1,5 +1,5 @@
 -- Signs: document 01, "Choice of codebook", S(n) and the negation of a DC difference; RDD 36, Table 8. Over whole numbers.
-use Prim.Native.Nat.{ℕ, suc, _+_, _-_, _*_, _/_, _%_}
+use Prim.Native.Nat.{ℕ, suc, _-_, _*_, _/_, _%_}
 use mathlib.Core.Bool.{Bool, true, false, cond}
 use lib.IntN.{ℤ, pos, negsuc, negℤ}
 use lib.Dec.{eqb}

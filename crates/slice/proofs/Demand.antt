@@ -2,13 +2,12 @@
 -- the buffer is shorter than the three codes, and every block comes back in its place.
 -- Assumes nothing.
 use Prim.Native.Nat.{ℕ, zero, suc, _+_, _*_, _^_, _≤_, _<_}
-use native.Mathlib.Nat.{le-trans, mul-le-mul}
+use native.Mathlib.Nat.{mul-le-mul}
 use native.Mathlib.Omega.{arith}
 use mathlib.Core.Path.{_≡_, refl, sym, ap, ap₂, _∙_}
 use mathlib.Core.Bool.{Bool, true, _&&_}
 use mathlib.Core.List.{List, [], _∷_, _++_, append-assoc, append-nil}
 use borrow.Author.Tests.{le-leb}
-use lib.Dec.{leb}
 use lib.IntN.{ℤ, pos, natAbs}
 use lib.ListN.{length, take, drop, getD, replicate, length-append, length-replicate}
 use lib.Pow.{pow-pos}
@@ -27,7 +26,7 @@ use Rattle.entropy.proofs.DecodeLaws.{decodeOf-fits}
 use Rattle.scan.specs.Scan.{tab, scannedOf}
 use Rattle.scan.proofs.ScanLaws.{length-scanned}
 use Rattle.scan.proofs.RoundTrip.{back-blocks}
-use Rattle.components.specs.Shapes.{knownChroma, knownScan, interlaced, chromaBlocks, blocksPer, macroblockLimit, inLimit, sliceLength, Components, Few}
+use Rattle.components.specs.Shapes.{knownChroma, knownScan, interlaced, chromaBlocks, blocksPer, inLimit, sliceLength, Components, Few}
 use Rattle.components.specs.Encoding.{scansOf, codesOf, laid, sizesOf, neededFor, Encoding, encoding, wrote, needs, written, encodeSliceOf}
 use Rattle.components.specs.Decoding.{readAll, sliceDecoding, componentOf, joined, payloadsFit, decodeSliceOf}
 use Rattle.components.proofs.ShapeLaws.{few-of}

@@ -1,18 +1,15 @@
 -- Laws of `encodeSliceOf`, case by case.
 -- Assumes nothing.
-use Prim.Native.Nat.{ℕ, _+_, _≤_, _<_}
-use mathlib.Core.Path.{_≡_, sym, ap, ap₂, _∙_}
-use mathlib.Core.Bool.{Bool, true, false, _&&_}
-use mathlib.Core.List.{List, _++_}
+use Prim.Native.Nat.{ℕ}
+use mathlib.Core.Path.{_≡_, sym}
+use mathlib.Core.Bool.{true, false, _&&_}
+use mathlib.Core.List.{List}
 use lib.IntN.{ℤ}
-use lib.ListN.{length, drop}
-use borrow.Author.Tests.{le-leb, lt-leb, eq-eqb, ne-eqb}
-use Rattle.bitstream.specs.Bytes.{bytesFor}
-use Rattle.bitstream.specs.Puts.{storedFrom}
+use lib.ListN.{length}
+use borrow.Author.Tests.{eq-eqb, ne-eqb}
 use Rattle.elements.specs.Limits.{inRange}
-use Rattle.components.specs.Shapes.{knownChroma, knownScan, interlaced, chromaBlocks, inLimit, sliceLength, Components}
-use Rattle.components.specs.Encoding.{scansOf, codesOf, laid, Size, sizesOf, neededFor, encoding, wrote, needs, declines, written, encodeSliceOf}
-use Rattle.slice_writing.proofs.LaidLaws.{from-laid}
+use Rattle.components.specs.Shapes.{knownChroma, knownScan, interlaced, chromaBlocks, inLimit, sliceLength}
+use Rattle.components.specs.Encoding.{scansOf, codesOf, encoding, declines, written, encodeSliceOf}
 
 module _ (blocks : List ℤ) (m f s : ℕ) (old : List ℕ) where
   pub encode-unknown : knownChroma f && knownScan s ≡ false → encoding (declines 13) old ≡ encodeSliceOf blocks m f s old

@@ -1,23 +1,20 @@
 -- Laws of `joined`, case by case, and of lists of zeros.
 -- Assumes nothing.
-use Prim.Native.Nat.{ℕ, zero, suc, _-_, _*_, _≤_, _<_}
+use Prim.Native.Nat.{ℕ, zero, suc, _-_, _≤_}
 use native.Mathlib.Nat.{not-suc-le-zero, le-of-suc-le-suc}
 use native.Mathlib.Omega.{arith}
 use mathlib.Core.Path.{_≡_, refl, sym, ap, _∙_}
-use mathlib.Core.Bool.{Bool, true, false, cond, _&&_}
+use mathlib.Core.Bool.{Bool}
 use mathlib.Core.List.{List, _∷_}
-use lib.Dec.{leb, eqb}
 use lib.IntN.{ℤ, pos}
 use lib.ListN.{length, take, length-replicate}
-use borrow.Author.Tests.{le-leb, lt-leb, eq-eqb, ne-eqb}
-use Rattle.bitstream.specs.Told.{payloadLimit}
+use Rattle.bitstream.specs.declared.Reached.{Reached}
 use Rattle.elements.specs.Decoding.{nil}
 use Rattle.elements.specs.Answers.{read, refuse, Decoding, decoding}
 use Rattle.reading.specs.Steps.{reachedSays}
-use Rattle.reading.specs.declared.Reached.{Reached}
 use Rattle.scan.specs.Scan.{placedOf}
-use Rattle.components.specs.Shapes.{knownChroma, knownScan, interlaced, chromaBlocks, inLimit, sliceLength}
-use Rattle.components.specs.Decoding.{readAll, refuseIn, SliceDecoding, sliceDecoding, componentOf, joined, payloadsFit, decodeSliceOf}
+use Rattle.components.specs.Shapes.{sliceLength}
+use Rattle.components.specs.Decoding.{readAll, refuseIn, SliceDecoding, sliceDecoding, componentOf, joined}
 
 -- ---- the three components
 

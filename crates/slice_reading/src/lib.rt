@@ -8,9 +8,9 @@ ghost use Rattle.elements.specs.Answers.{decoding, read};
 ghost use Rattle.components.specs.Shapes.{Few, Readable, sliceLength};
 ghost use Rattle.components.specs.Decoding.{componentOf, sliceDecoding, joined};
 ghost use Rattle.components.specs.Told.{told};
+use bitstream::Reached;
 use components::DecodedSlice;
 use elements::zero;
-use reading::Reached;
 
 // Cr, behind Y and Cb. The list for Cr is all zero.
 fn decode_cr(

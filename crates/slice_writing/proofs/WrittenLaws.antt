@@ -2,16 +2,14 @@
 -- Assumes nothing.
 use Prim.Native.Nat.{ℕ, _+_, _≤_, _<_}
 use mathlib.Core.Path.{_≡_, sym, ap, ap₂, _∙_}
-use mathlib.Core.Bool.{Bool, true, false, _&&_}
+use mathlib.Core.Bool.{Bool}
 use mathlib.Core.List.{List, _++_}
-use lib.IntN.{ℤ}
 use lib.ListN.{length, drop}
-use borrow.Author.Tests.{le-leb, lt-leb, eq-eqb, ne-eqb}
+use borrow.Author.Tests.{le-leb, lt-leb}
 use Rattle.bitstream.specs.Bytes.{bytesFor}
 use Rattle.bitstream.specs.Puts.{storedFrom}
-use Rattle.elements.specs.Limits.{inRange}
-use Rattle.components.specs.Shapes.{knownChroma, knownScan, interlaced, chromaBlocks, inLimit, sliceLength, Components}
-use Rattle.components.specs.Encoding.{scansOf, codesOf, laid, Size, sizesOf, neededFor, encoding, wrote, needs, declines, written, encodeSliceOf}
+use Rattle.components.specs.Shapes.{Components}
+use Rattle.components.specs.Encoding.{laid, Size, sizesOf, neededFor, encoding, wrote, needs, written}
 use Rattle.slice_writing.proofs.LaidLaws.{from-laid}
 
 abbrev sized : ℕ → Size

@@ -1,2 +1,1 @@
-pub mod DoingLaws
 pub mod WritingLaws

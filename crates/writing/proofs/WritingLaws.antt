@@ -1,7 +1,6 @@
--- Laws of the encoder's own terms: the code's length, words, and the code from a state on, one coefficient at a time.
+-- Laws of the encoder's own terms: the code's length, and the code from a state on, one coefficient at a time.
 -- Assumes nothing.
-use Prim.Native.Nat.{ℕ, zero, suc, _+_, _-_, _*_, _^_, _≤_, _<_}
-use native.Mathlib.Nat.{mul-le-mul-right}
+use Prim.Native.Nat.{ℕ, zero, suc, _+_, _-_, _*_, _≤_, _<_}
 use native.Mathlib.Numerals.{add-one}
 use native.Mathlib.Omega.{arith}
 use mathlib.Core.Path.{_≡_, refl, sym, ap, ap₂, _∙_}
@@ -11,18 +10,16 @@ use borrow.Author.Tests.{eq-eqb, ne-eqb}
 use lib.Dec.{eqb}
 use lib.IntN.{ℤ, pos, negsuc, natAbs, _-ℤ_}
 use lib.ListN.{length, drop, getD, length-append, drop-of-length-le}
-use lib.Pow.{pow-add, pow-mono}
 use lib.Seq.{drop-cons}
 use mir.Syntax.{w32}
 use mir.Val.{SFits, toZ, ofZ}
 use mir.Facts.{toZ-ofZ}
 use Rattle.common.proofs.Integers.{sfits-natAbs, natAbs-sub}
 use Rattle.bitstream.specs.Bits.{field}
-use Rattle.bitstream.specs.Bytes.{putAt}
-use Rattle.bitstream.specs.Puts.{Puts}
-use Rattle.bitstream.proofs.FieldLaws.{length-field, field-join}
+use Rattle.bitstream.proofs.FieldLaws.{length-field}
 use Rattle.codeword.specs.Codewords.{code}
-use Rattle.codeword.specs.Words.{Spells, OneMore}
+use Rattle.codeword.specs.Words.{WordOf}
+use Rattle.codeword.proofs.WordLaws.{word-length}
 use Rattle.books.specs.Books.{firstBook, runBook, levelBook}
 use Rattle.signs.specs.Signs.{isNegative, symbolOf}
 use Rattle.books.proofs.BookLaws.{dcBook-in-use, runBook-in-use, levelBook-in-use}
@@ -30,12 +27,11 @@ use Rattle.elements.specs.Elements.{elementBits, bits, acElements, dcElements, 
 use Rattle.elements.specs.Limits.{most}
 use Rattle.elements.specs.Limits.{inRange}
 use Rattle.elements.specs.Limits.{Fine}
-use Rattle.writing.specs.Writing.{WordOf, DcFits, firstDcs, dcBits, dcAfter, dcsCode, AcFits, firstAcs, acBits, acAfter, acsCode}
+use Rattle.writing.specs.Writing.{DcFits, firstDcs, dcBits, dcAfter, dcsCode, AcFits, firstAcs, acBits, acAfter, acsCode}
 use Rattle.writing.specs.declared.Dcs.{Dcs}
 use Rattle.writing.specs.declared.Acs.{Acs}
 use Rattle.elements.proofs.RangeLaws.{natAbs-inRange}
 use Rattle.elements.proofs.RoundTrip.{Small}
-use Rattle.writing.proofs.DoingLaws.{puts-at}
 use Rattle.elements.proofs.SizeLaws.{Below, encode-length, size-le}
 
 -- no blocks have no code
@@ -43,7 +39,7 @@ pub encode-none : {b : ℕ} (cs : List ℤ) → b ≡ 0 → encode b cs ≡ []
 unfolding encode elementsOf bits
 encode-none cs e = rw e
 
--- ---- the length of the code: 63 bits for each of 2,048 coefficients
+-- ---- the length of the code: 63 bits for each coefficient
 
 small-below : (cs : List ℤ) → inRange cs ≡ true → Small cs × Below 29 cs
 small-below cs e = go cs (λ i. natAbs-inRange cs i e)
@@ -52,44 +48,10 @@ small-below cs e = go cs (λ i. natAbs-inRange cs i e)
     go [] h = (tt, tt)
     go (x ∷ xs) h = let r = go xs (λ i. h (suc i)) in ((h 0, r .0), (omega (arith, h 0), r .1))
 
-pub encode-le : {b : ℕ} {cs : List ℤ} → Fine b cs → length (encode b cs) ≤ 129024
+pub encode-le : {b : ℕ} {cs : List ℤ} → Fine b cs → length (encode b cs) ≤ 4032 * b
 encode-le {b} {cs} f =
     let s = small-below cs (f .small) in
     omega (arith, f .full, f .few, encode-length b cs (omega (arith, f .full, f .few)) (s .0), size-le 29 b cs (omega arith) (f .full) (omega (arith, f .few)) (s .1))
-
--- ---- words
-
-pub word-spelt : {bs bs′ : List Bool} {n v : ℕ} → Spells bs n v → bs ≡ bs′ → WordOf bs′ n v
-word-spelt w e = record { is = w .is ∙ e; fits = w .fits; small = omega (arith, w .small); short = omega (arith, w .short) }
-
-pub word-more : {bs : List Bool} {b : Bool} {n v n′ v′ : ℕ} → Spells bs n v → OneMore n v b n′ v′ → WordOf (bs ++ (b ∷ [])) n′ v′
-word-more {b = b} w m =
-    record {
-      is = m .is ∙ ap (λ (l : List Bool). l ++ (b ∷ [])) (w .is);
-      fits = m .fits;
-      small = m .small;
-      short = omega (arith, m .count, w .short);
-    }
-
-word-length : {bs : List Bool} {n v : ℕ} → WordOf bs n v → length bs ≡ n
-word-length {n = n} {v = v} w = ap length (sym (w .is)) ∙ length-field n v
-
-pub puts-word : {e e′ : List ℕ} {p p′ n v : ℕ} {bs : List Bool} → WordOf bs n v → p′ ≡ p + n → e′ ≡ putAt e p (field n v) → Puts e p bs e′ p′
-puts-word {e = e} {p = p} w a b = puts-at (omega (arith, word-length w)) (b ∙ ap (putAt e p) (w .is))
-
--- two words, and both in one
-module _ {xs bs : List Bool} {n v m w : ℕ} (a : WordOf xs n v) (b : WordOf bs m w) where
-  pair-length : length (xs ++ bs) ≡ n + m
-  pair-length = length-append xs bs ∙ ap₂ _+_ (word-length a) (word-length b)
-
-  pub pair-lt : n + m ≤ 56 → v * 2 ^ m + w < 2 ^ 56
-  pair-lt h =
-      let top : suc v * 2 ^ m ≤ 2 ^ n * 2 ^ m = mul-le-mul-right (2 ^ m) (a .fits) in
-      omega (arith, b .fits, pow-add 2 n m, pow-mono {i = n + m} {j = 56} h)
-
-  pub puts-pair : {e e′ : List ℕ} {p p′ : ℕ} → p′ ≡ p + (n + m) → e′ ≡ putAt e p (field (n + m) (v * 2 ^ m + w)) → Puts e p (xs ++ bs) e′ p′
-  puts-pair {e = e} {p = p} x y =
-      puts-at (omega (arith, pair-length)) (y ∙ ap (putAt e p) (sym (field-join n m v w (b .fits)) ∙ ap₂ _++_ (a .is) (b .is)))
 
 -- ---- numbers of 32 bits: a coefficient, and the difference of two
 

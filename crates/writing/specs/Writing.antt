@@ -1,13 +1,10 @@
--- The encoder's own terms, in its functions' contracts: the code from a state on, coefficient by coefficient, and a code that is being written.
+-- The encoder's own terms, in its functions' contracts: the code from a state on, coefficient by coefficient.
 use Prim.Native.Nat.{ℕ, _+_, _-_, _*_, _^_, _≤_, _<_}
-use mathlib.Core.Path.{_≡_}
-use mathlib.Core.Bool.{Bool, true, false, cond}
+use mathlib.Core.Bool.{Bool, false, cond}
 use mathlib.Core.List.{List, [], _∷_, _++_}
 use lib.Dec.{eqb}
 use lib.IntN.{ℤ, natAbs, _-ℤ_}
 use lib.ListN.{length}
-use Rattle.bitstream.specs.Bits.{field}
-use Rattle.bitstream.specs.Puts.{Puts}
 use Rattle.codeword.specs.Codewords.{code}
 use Rattle.books.specs.Books.{dcBook, runBook, levelBook}
 use Rattle.codeword.specs.Words.{InUse}
@@ -16,16 +13,6 @@ use Rattle.elements.specs.Elements.{bits, acElements, dcElements}
 use Rattle.elements.specs.Limits.{most}
 use Rattle.writing.specs.declared.Dcs.{Dcs}
 use Rattle.writing.specs.declared.Acs.{Acs}
-
--- the bits are the len low bits of value, which codeword::put::put_word takes
-pub record WordOf (bits : List Bool) (len value : ℕ) : Type 0 where
-  pub is : field len value ≡ bits
-  pub fits : value < 2 ^ len
-  pub small : value < 2 ^ 34
-  pub short : len ≤ 69
-
-abbrev pub IsWord : ℕ → ℕ → Type 0
-IsWord len value = WordOf (field len value) len value
 
 -- ---- DC
 
@@ -69,15 +56,9 @@ acAfter s c =
 unfoldable pub acsCode : Acs → List ℤ → List Bool
 acsCode s cs = bits (acElements (s .runs) (s .levels) (s .run) cs)
 
--- ---- writing
+-- ---- room
 
 -- n bits at bit p of a buffer are inside it, and far below what a position can count
 pub record Room (buf : List ℕ) (p n : ℕ) : Type 0 where
   pub inside : p + n ≤ 8 * length buf
   pub below : p + n < 2 ^ 63
-
--- from the buffer e and the bit p, the code whole is being written: buf and at are where it stands, and rest is to come
-pub record Doing (e : List ℕ) (p : ℕ) (whole : List Bool) (buf : List ℕ) (at : ℕ) (rest : List Bool) : Type 0 where
-  pub done : List Bool
-  pub join : done ++ rest ≡ whole
-  pub puts : Puts e p done buf at

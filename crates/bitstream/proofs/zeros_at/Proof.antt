@@ -1,7 +1,7 @@
 -- `bitstream::zeros_at` meets its contract. The invariant: the bits from p up to bit at are zeros that were passed.
 -- Assumes nothing.
 use mathlib.Core.Path.{_≡_, sym, _∙_}
-use Prim.Native.Nat.{ℕ, _-_, _≤_}
+use Prim.Native.Nat.{_-_, _≤_}
 use native.Mathlib.Omega.{arith}
 use lib.ListN.{length}
 use Rattle.bitstream.specs.Bits.{bitsOf}

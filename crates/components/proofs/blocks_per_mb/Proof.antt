@@ -4,7 +4,7 @@ use Prim.Native.Nat.{ℕ, _≤_}
 use mathlib.Core.Path.{ap, _∙_}
 use native.Mathlib.Omega.{arith}
 use borrow.Author.Needs.{needs}
-use Rattle.components.specs.Shapes.{BlocksAnswer, counts, blocksPer, chromaBlocks}
+use Rattle.components.specs.Shapes.{counts, blocksPer, chromaBlocks}
 use Rattle.components.proofs.ShapeLaws.{chroma-known, chroma-unknown, chroma-few, counted-known, counted-unknown}
 use Rattle.components.proofs.blocks_per_mb.Statement.{statement}
 use Rattle.components.proofs.blocks_per_mb.Tie as tie

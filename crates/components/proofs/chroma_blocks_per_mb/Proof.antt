@@ -1,11 +1,10 @@
 -- `components::chroma_blocks_per_mb` meets its contract.
 -- Assumes nothing.
-use Prim.Native.Nat.{ℕ}
 use mathlib.Core.Path.{ap, _∙_}
 use native.Mathlib.Omega.{arith}
 use borrow.Author.Needs.{needs}
-use Rattle.components.specs.Shapes.{BlocksAnswer, counts, blocksPer, chromaBlocks}
-use Rattle.components.proofs.ShapeLaws.{chroma-known, chroma-unknown, chroma-few, counted-known, counted-unknown}
+use Rattle.components.specs.Shapes.{counts, chromaBlocks}
+use Rattle.components.proofs.ShapeLaws.{chroma-known, chroma-unknown, counted-known, counted-unknown}
 use Rattle.components.proofs.chroma_blocks_per_mb.Statement.{statement}
 use Rattle.components.proofs.chroma_blocks_per_mb.Tie as tie
 

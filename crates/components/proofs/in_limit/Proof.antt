@@ -2,7 +2,6 @@
 -- Assumes nothing.
 use mathlib.Core.Path.{sym}
 use borrow.Author.Tests.{le-leb, lt-leb}
-use Rattle.components.specs.Shapes.{inLimit}
 use Rattle.components.proofs.in_limit.Statement.{statement}
 use Rattle.components.proofs.in_limit.Tie as tie
 

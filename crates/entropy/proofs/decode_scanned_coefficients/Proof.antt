@@ -4,10 +4,10 @@ use Prim.Native.Nat.{ℕ}
 use mathlib.Core.Path.{_≡_, sym, ap, _∙_}
 use Rattle.bitstream.specs.Bits.{bitsOf}
 use Rattle.bitstream.specs.Told.{numberOf}
+use Rattle.bitstream.specs.declared.Reached.{Reached}
 use Rattle.elements.specs.Decoding.{nil, decode}
 use Rattle.elements.specs.Answers.{refuse, decoding, settled, decodeOf}
 use Rattle.reading.specs.Steps.{reachedSays}
-use Rattle.reading.specs.declared.Reached.{Reached}
 use Rattle.entropy.proofs.DecodeLaws.{decodeOf-many, decodeOf-long, decodeOf-length, decodeOf-fits}
 use borrow.Author.Needs.{needs}
 use Rattle.entropy.proofs.decode_scanned_coefficients.Statement.{statement}

@@ -3,8 +3,8 @@
 use mathlib.Core.Path.{_≡_, subst}
 use Rattle.bitstream.specs.Bits.{bitsOf}
 use Rattle.bitstream.specs.Told.{numberOf}
+use Rattle.bitstream.specs.declared.Reached.{Reached}
 use Rattle.reading.specs.Steps.{DcsRead}
-use Rattle.reading.specs.declared.Reached.{Reached}
 use Rattle.reading.proofs.Standing.{rejects-answer, none-answer}
 use borrow.Author.Needs.{needs}
 use Rattle.reading.proofs.read_all.Statement.{statement}

@@ -28,8 +28,8 @@ same-length-2 c = search needs
 returns : tie.Need-returns Inv-loop μ-loop
 returns c = search needs
 
-first-requires : tie.Need-first-requires Inv-loop μ-loop
-first-requires c κs = search needs
+bytes-requires : tie.Need-bytes-requires Inv-loop μ-loop
+bytes-requires c κs = search needs
 
 feed-requires : tie.Need-feed-requires Inv-loop μ-loop
 feed-requires c κs = search needs
@@ -63,7 +63,7 @@ read-lines-spec =
     same-length
     same-length-2
     returns
-    first-requires
+    bytes-requires
     feed-requires
     sub-reads
     loop-less

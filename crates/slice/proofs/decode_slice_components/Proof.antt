@@ -1,7 +1,6 @@
 -- `slice::decode_slice_components` meets its contract.
 -- Assumes nothing.
-use Prim.Native.Nat.{ℕ, _*_, _≤_}
-use mathlib.Core.Path.{_≡_, sym, ap, _∙_}
+use mathlib.Core.Path.{_≡_, _∙_}
 use mathlib.Core.Bool.{true, _&&_}
 use native.Mathlib.Omega.{arith}
 use Rattle.components.specs.Shapes.{knownChroma, knownScan, inLimit, Few}

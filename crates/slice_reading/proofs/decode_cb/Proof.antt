@@ -1,7 +1,7 @@
 -- `slice_reading::decode_cb` meets its contract.
 -- Assumes nothing.
-use Prim.Native.Nat.{ℕ, _*_}
-use mathlib.Core.Path.{_≡_, sym, ap, _∙_}
+use Prim.Native.Nat.{_*_}
+use mathlib.Core.Path.{sym, ap, _∙_}
 use lib.IntN.{pos}
 use lib.ListN.{length, length-replicate}
 use Rattle.bitstream.specs.Told.{numberOf}

@@ -1,8 +1,7 @@
 -- `slice_reading::decode_cr` meets its contract.
 -- Assumes nothing.
-use Prim.Native.Nat.{ℕ, _*_}
-use mathlib.Core.Path.{_≡_, sym, ap, _∙_}
-use native.Mathlib.Omega.{arith}
+use Prim.Native.Nat.{_*_}
+use mathlib.Core.Path.{sym, ap, _∙_}
 use lib.ListN.{length, length-replicate}
 use lib.IntN.{pos}
 use Rattle.bitstream.specs.Told.{numberOf}

@@ -1,12 +1,12 @@
 -- `slice_reading::decode_y` meets its contract.
 -- Assumes nothing.
-use Prim.Native.Nat.{ℕ, _*_}
-use mathlib.Core.Path.{_≡_, sym, ap, _∙_}
+use Prim.Native.Nat.{_*_}
+use mathlib.Core.Path.{sym, ap, _∙_}
 use lib.IntN.{pos}
 use lib.ListN.{length, length-replicate}
 use Rattle.bitstream.specs.Told.{numberOf}
 use Rattle.elements.specs.Decoding.{nil}
-use Rattle.elements.specs.Answers.{read, decoding, Decoding}
+use Rattle.elements.specs.Answers.{Decoding}
 use Rattle.components.specs.Decoding.{refuseIn, sliceDecoding, SliceDecoding, componentOf, joined}
 use Rattle.slice_reading.proofs.JoinLaws.{joined-y, reached}
 use borrow.Author.Needs.{needs}

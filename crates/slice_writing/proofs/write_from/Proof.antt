@@ -23,7 +23,7 @@ same-length c = search needs
 returns : tie.Need-returns
 returns c =
     let s = c .before .before .before .before .before in
-    from-part (s .args .out .now) (s .args .from) _ (c .before .before .write .ensures .1)
+    (c .before .before .write .ensures .0, from-part (s .args .out .now) (s .args .from) _ (c .before .before .write .ensures .1))
 
 pub write-from-spec : {M : Type 1} → statement M
 write-from-spec =

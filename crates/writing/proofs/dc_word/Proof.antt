@@ -6,9 +6,10 @@ use borrow.Author.Needs.{needs}
 use lib.IntN.{natAbs}
 use mir.Facts.{toZ-ofZ}
 use Rattle.codeword.specs.Codewords.{code}
+use Rattle.codeword.proofs.WordLaws.{word-spelt}
 use Rattle.signs.specs.Signs.{symbolOf, turned}
 use Rattle.writing.specs.Writing.{dcBits}
-use Rattle.writing.proofs.WritingLaws.{word-spelt, diff-le, diff-fits, diff-read}
+use Rattle.writing.proofs.WritingLaws.{diff-le, diff-fits, diff-read}
 use Rattle.writing.proofs.dc_word.Statement.{statement}
 use Rattle.writing.proofs.dc_word.Tie as tie
 

@@ -5,9 +5,9 @@ use borrow.Author.Needs.{needs}
 use mir.Facts.{toZ-ofZ}
 use Rattle.codeword.specs.Codewords.{code}
 use Rattle.codeword.specs.Words.{InUse}
+use Rattle.codeword.proofs.WordLaws.{word-spelt}
 use Rattle.signs.specs.Signs.{symbolOf}
 use Rattle.books.proofs.BookLaws.{firstBook-in-use}
-use Rattle.writing.proofs.WritingLaws.{word-spelt}
 use Rattle.writing.proofs.first_word.Statement.{statement}
 use Rattle.writing.proofs.first_word.Tie as tie
 

@@ -9,9 +9,9 @@ use borrow.Author.Needs.{needs}
 use lib.IntN.{natAbs}
 use mir.Facts.{toZ-ofZ}
 use Rattle.codeword.specs.Codewords.{code}
+use Rattle.codeword.specs.Words.{WordOf}
+use Rattle.codeword.proofs.WordLaws.{word-more}
 use Rattle.signs.specs.Signs.{isNegative}
-use Rattle.writing.specs.Writing.{WordOf}
-use Rattle.writing.proofs.WritingLaws.{word-more}
 use Rattle.writing.proofs.level_word.Statement.{statement}
 use Rattle.writing.proofs.level_word.Tie as tie
 

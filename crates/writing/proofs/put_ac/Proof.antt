@@ -8,8 +8,8 @@ use borrow.Author.Needs.{needs}
 use lib.IntN.{natAbs}
 use mir.Facts.{toZ-ofZ}
 use Rattle.bitstream.specs.Puts.{Puts}
+use Rattle.bitstream.proofs.DoingLaws.{doing-start, doing-last}
 use Rattle.writing.specs.Writing.{acBits}
-use Rattle.writing.proofs.DoingLaws.{doing-start, doing-last}
 use Rattle.writing.proofs.WritingLaws.{bits-none, ac-words, ac-words-length}
 use Rattle.writing.proofs.put_ac.Statement.{statement}
 use Rattle.writing.proofs.put_ac.Tie as tie

@@ -5,9 +5,10 @@ use Prim.Native.Nat.{_+_, _-_, _≤_}
 use native.Mathlib.Omega.{arith}
 use borrow.Author.Needs.{needs}
 use lib.ListN.{length, drop}
-use Rattle.writing.specs.Writing.{AcFits, firstAcs, acsCode, Doing}
+use Rattle.bitstream.specs.Puts.{Doing}
+use Rattle.bitstream.proofs.DoingLaws.{doing-start, doing-more, doing-at, doing-last, doing-room}
+use Rattle.writing.specs.Writing.{AcFits, firstAcs, acsCode}
 use Rattle.writing.specs.declared.Acs.{Acs}
-use Rattle.writing.proofs.DoingLaws.{doing-start, doing-more, doing-at, doing-last, doing-room}
 use Rattle.writing.proofs.WritingLaws.{at, acs-next, acs-length, acs-end, ac-first-fits, ac-fits}
 use Rattle.writing.proofs.put_acs.Statement.{statement}
 use Rattle.writing.proofs.put_acs.Tie as tie

@@ -6,10 +6,12 @@ use Prim.Native.Nat.{_+_, _-_, _≤_}
 use native.Mathlib.Omega.{arith}
 use borrow.Author.Needs.{needs}
 use lib.ListN.{length, drop}
+use Rattle.bitstream.specs.Puts.{Doing}
+use Rattle.bitstream.proofs.DoingLaws.{doing-start, doing-more, doing-at, doing-after}
+use Rattle.codeword.proofs.WordLaws.{puts-word}
 use Rattle.elements.specs.Elements.{encode}
-use Rattle.writing.specs.Writing.{DcFits, dcsCode, Doing}
-use Rattle.writing.proofs.DoingLaws.{doing-start, doing-more, doing-at, doing-after}
-use Rattle.writing.proofs.WritingLaws.{encode-le, puts-word, at-small, encode-first, encode-length-first, dcs-next, dcs-length, dcs-end, first-fits, dc-fits}
+use Rattle.writing.specs.Writing.{DcFits, dcsCode}
+use Rattle.writing.proofs.WritingLaws.{encode-le, at-small, encode-first, encode-length-first, dcs-next, dcs-length, dcs-end, first-fits, dc-fits}
 use Rattle.writing.proofs.put_dcs.Statement.{statement}
 use Rattle.writing.proofs.put_dcs.Tie as tie
 

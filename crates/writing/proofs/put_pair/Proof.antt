@@ -7,7 +7,7 @@ use borrow.Author.Needs.{needs}
 use Rattle.bitstream.specs.Bits.{field}
 use Rattle.bitstream.specs.Bytes.{putAt}
 use Rattle.bitstream.proofs.PutLaws.{puts-then}
-use Rattle.writing.proofs.WritingLaws.{pair-lt, puts-word, puts-pair}
+use Rattle.codeword.proofs.WordLaws.{puts-word, pair-lt, puts-pair}
 use Rattle.writing.proofs.put_pair.Statement.{statement}
 use Rattle.writing.proofs.put_pair.Tie as tie
 

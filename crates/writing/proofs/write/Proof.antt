@@ -8,9 +8,8 @@ use lib.ListN.{length}
 use Rattle.bitstream.specs.Bytes.{stored}
 use Rattle.bitstream.proofs.BytesLaws.{stored-none}
 use Rattle.bitstream.proofs.PutLaws.{held-none}
-use Rattle.writing.proofs.WritingLaws.{encode-none}
-use Rattle.writing.proofs.DoingLaws.{doing-more, doing-last, doing-room}
-use Rattle.writing.proofs.WritingLaws.{encode-le}
+use Rattle.bitstream.proofs.DoingLaws.{doing-more, doing-last, doing-room}
+use Rattle.writing.proofs.WritingLaws.{encode-none, encode-le}
 use Rattle.writing.proofs.write.Statement.{statement}
 use Rattle.writing.proofs.write.Tie as tie
 

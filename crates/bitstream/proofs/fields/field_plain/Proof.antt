@@ -3,7 +3,7 @@
 use mathlib.Core.Path.{_≡_, refl, sym, ap, _∙_, subst}
 use Prim.Native.Nat.{ℕ, _+_, _-_, _*_, _^_, _≤_, _<_}
 use native.Mathlib.Omega.{arith}
-use lib.ListN.{length, take, drop, length-drop}
+use lib.ListN.{take, drop, length-drop}
 use mathlib.Core.Bool.{false}
 use native.Mathlib.Nat.{lt-of-lt-of-le}
 use lib.Seq.{getD-drop}

@@ -1,7 +1,7 @@
 -- `bitstream::fields::zero_from` meets its contract. The invariant: the bytes from j on decide it.
 -- Assumes nothing.
 use mathlib.Core.Path.{_≡_, refl, sym, _∙_}
-use Prim.Native.Nat.{ℕ, _-_, _<_}
+use Prim.Native.Nat.{_-_, _<_}
 use native.Mathlib.Omega.{arith}
 use lib.ListN.{length, drop, getD}
 use Rattle.bitstream.specs.Bits.{bitsOf, ended}

@@ -1,8 +1,8 @@
 -- `probe::bits::probe_end_of_data` meets its contract.
 -- Assumes nothing.
 use mathlib.Core.Path.{ap, _∙_}
-use Rattle.probe.specs.Bits.{flagOf}
-use Rattle.probe.proofs.BitLaws.{flag-byte}
+use Rattle.numbers.specs.Numbers.{flagOf}
+use Rattle.numbers.proofs.FlagLaws.{flag-byte}
 use borrow.Author.Needs.{needs}
 use Rattle.probe.proofs.bits.probe_end_of_data.Statement.{statement}
 use Rattle.probe.proofs.bits.probe_end_of_data.Tie as tie

@@ -2,7 +2,7 @@
 -- Assumes nothing.
 use mathlib.Core.Path.{ap, _∙_}
 use Rattle.elements.specs.Answers.{Decoding}
-use Rattle.probe.specs.Coefficients.{decodeResult, decodeBits}
+use Rattle.numbers.specs.Numbers.{decodeNumbers}
 use borrow.Author.Needs.{needs}
 use Rattle.probe.proofs.coefficients.probe_decode.Statement.{statement}
 use Rattle.probe.proofs.coefficients.probe_decode.Tie as tie
@@ -18,9 +18,8 @@ same-length c = search needs
 
 returns : tie.Need-returns
 returns c =
-    let n = c .decode-numbers .ensures in
     let e = c .before .before .decode-scanned-coefficients .ensures in
-    (n .0 ∙ ap (λ (x : Decoding). decodeResult (x .answer)) e, (ap (λ (x : Decoding). x .list) e, n .1 ∙ ap (λ (x : Decoding). decodeBits (x .answer)) e))
+    (ap (λ (x : Decoding). x .list) e, c .decode-numbers .ensures ∙ ap (λ (x : Decoding). decodeNumbers (x .answer)) e)
 
 pub probe-decode-spec : {M : Type 1} → statement M
 probe-decode-spec =

@@ -2,7 +2,7 @@
 -- Assumes nothing.
 use mathlib.Core.Path.{ap, _∙_}
 use Rattle.elements.specs.Answers.{Encoding}
-use Rattle.probe.specs.Coefficients.{encodeResult, encodeBytes, encodeBits}
+use Rattle.numbers.specs.Numbers.{encodeNumbers}
 use borrow.Author.Needs.{needs}
 use Rattle.probe.proofs.coefficients.probe_encode.Statement.{statement}
 use Rattle.probe.proofs.coefficients.probe_encode.Tie as tie
@@ -18,14 +18,8 @@ same-length c = search needs
 
 returns : tie.Need-returns
 returns c =
-    let n = c .encode-numbers .ensures in
-    let e = c .before .before .before .encode-scanned-coefficients .ensures in (
-      n .0 ∙ ap (λ (x : Encoding). encodeResult (x .answer)) e,
-      (
-        ap (λ (x : Encoding). x .buffer) e,
-        (n .1 .0 ∙ ap (λ (x : Encoding). encodeBytes (x .answer)) e, n .1 .1 ∙ ap (λ (x : Encoding). encodeBits (x .answer)) e),
-      ),
-    )
+    let e = c .before .before .before .encode-scanned-coefficients .ensures in
+    (ap (λ (x : Encoding). x .buffer) e, c .encode-numbers .ensures ∙ ap (λ (x : Encoding). encodeNumbers (x .answer)) e)
 
 pub probe-encode-spec : {M : Type 1} → statement M
 probe-encode-spec =

@@ -2,7 +2,7 @@
 -- Assumes nothing.
 use mathlib.Core.Path.{ap, _∙_}
 use Rattle.components.specs.Decoding.{SliceDecoding}
-use Rattle.probe.specs.Slices.{decodeNumbers}
+use Rattle.numbers.specs.Slices.{decodeNumbers}
 use borrow.Author.Needs.{needs}
 use Rattle.probe.proofs.slices.probe_decode_slice.Statement.{statement}
 use Rattle.probe.proofs.slices.probe_decode_slice.Tie as tie

@@ -2,8 +2,8 @@
 -- Assumes nothing.
 use mathlib.Core.Path.{ap, _∙_}
 use Rattle.components.specs.Encoding.{Encoding}
-use Rattle.probe.specs.Slices.{encodeNumbers}
-use Rattle.probe.specs.declared.slices.EncodeNumbers.{EncodeNumbers}
+use Rattle.numbers.specs.Slices.{encodeNumbers}
+use Rattle.numbers.specs.declared.slices.EncodeNumbers.{EncodeNumbers}
 use borrow.Author.Needs.{needs}
 use Rattle.probe.proofs.slices.probe_encode_slice.Statement.{statement}
 use Rattle.probe.proofs.slices.probe_encode_slice.Tie as tie

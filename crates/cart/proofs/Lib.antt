@@ -1,0 +1,4 @@
+pub mod CoefficientLaws
+pub mod Demand
+pub mod Unique
+pub mod MatrixLaws

@@ -7,7 +7,7 @@
 # On x86-64 the two are one file. rt compiles for nothing else, but the kit's clang can: elsewhere it
 # compiles the very module that rattle handed it for the archive. Linked in, a comparison runs many times
 # faster than over a pipe to an emulator, and times mean something. It holds for exported functions of
-# numbers, slices and `&mut` numbers, which both machines pass alike; a struct by value they do not.
+# numbers, slices and `&mut` numbers and arrays, which both machines pass alike; a struct by value they do not.
 set -eu
 [ $# -eq 1 ] || { echo "usage: compare/native.sh NAME" >&2; exit 2; }
 cd "$(dirname "$0")/.."
@@ -16,6 +16,9 @@ archive=lib$name.a
 machine=$(uname -m)
 work=target/native
 mkdir -p "$work"
+# one rt at a time: two over one target/ take each other's half-written results for failures
+exec 9>"$work/lock"
+flock 9
 # a failure must not leave an earlier archive behind
 rm -f "$work/$archive"
 command -v rt >/dev/null || { echo "native: rt, the command of the Rattle kit, is not on the PATH" >&2; exit 1; }

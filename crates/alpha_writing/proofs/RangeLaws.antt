@@ -3,30 +3,32 @@
 use Prim.Native.Nat.{ℕ, zero, suc, _+_, _≤_, _<_}
 use native.Mathlib.Numerals.{add-one}
 use native.Mathlib.Omega.{arith}
-use mathlib.Core.Path.{_≡_}
-use mathlib.Core.Bool.{true, false}
+use mathlib.Core.Path.{_≡_, sym, ap, _∙_}
+use mathlib.Core.Bool.{Bool, true, not, _&&_, _||_}
 use mathlib.Core.List.{List, [], _∷_}
-use lib.Dec.{leb}
+use lib.Dec.{leb, ltb}
 use lib.ListN.{length, drop, getD, drop-of-length-le}
 use lib.Seq.{drop-cons}
-use borrow.Author.Tests.{le-leb, lt-leb, leb-true}
+use borrow.Author.Tests.{leb-true}
+use Rattle.common.proofs.Flags.{found-more, found-all}
 use Rattle.samples.specs.declared.AlphaChannelType.{AlphaChannelType}
 use Rattle.samples.specs.Kinds.{maskOf}
 use Rattle.samples.specs.Limits.{inRange}
 use Rattle.samples.proofs.StepLaws.{and-true}
 
-module _ (k : AlphaChannelType) (ss : List ℕ) (i : ℕ) where
-  pub inRange-out : i < length ss → maskOf k < getD ss i 0 → inRange k (drop i ss) ≡ false
+-- one sample after another: w is whether one before i is out of range
+module _ (k : AlphaChannelType) (ss : List ℕ) (i : ℕ) (w : Bool) where
+  pub range-more : (m : ℕ) → m ≡ maskOf k → i < length ss
+      → (w || not (inRange k (drop i ss))) ≡ ((w || ltb m (getD ss i 0)) || not (inRange k (drop (i + 1) ss)))
   unfolding inRange
-  inRange-out h o = rw (drop-cons ss i 0 h, lt-leb (getD ss i 0) (maskOf k) o)
+  range-more m e h =
+      ap (λ (l : List ℕ). w || not (inRange k l)) (drop-cons ss i 0 h ∙ ap (λ (n : ℕ). getD ss i 0 ∷ drop n ss) (sym (add-one i)))
+      ∙ ap (λ (x : ℕ). w || not (leb (getD ss i 0) x && inRange k (drop (i + 1) ss))) (sym e)
+      ∙ found-more w (getD ss i 0) m (inRange k (drop (i + 1) ss))
 
-  pub inRange-next : i < length ss → getD ss i 0 ≤ maskOf k → inRange k (drop i ss) ≡ inRange k (drop (i + 1) ss)
+  pub range-all : not (inRange k ss) ≡ (w || not (inRange k (drop i ss))) → length ss ≤ i → w ≡ not (inRange k ss)
   unfolding inRange
-  inRange-next h o = rw (add-one, drop-cons ss i 0 h, le-leb (getD ss i 0) (maskOf k) o)
-
-  pub inRange-end : length ss ≤ i → inRange k (drop i ss) ≡ true
-  unfolding inRange
-  inRange-end h = rw (drop-of-length-le ss h)
+  range-all e h = sym (e ∙ ap (λ (l : List ℕ). w || not (inRange k l)) (drop-of-length-le ss h) ∙ found-all w)
 
 -- what it says of each sample
 pub getD-inRange : (k : AlphaChannelType) (ss : List ℕ) (i : ℕ) → inRange k ss ≡ true → getD ss i 0 ≤ maskOf k

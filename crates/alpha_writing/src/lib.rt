@@ -20,19 +20,18 @@ fn wide(x: u16) -> u32
     x as u32
 }
 
-// Whether a sample is out of range (refusal 4).
+// Whether a sample is out of range (refusal 4). All are looked at, without a branch, so that several go at once.
 pub fn out_of_range(samples: &[u16], kind: AlphaChannelType) -> bool
     ensures { λ r. ⌜ r ≡ not (inRange kind (now (samples .entry))) ⌝ }
 {
     let mask = kind.mask();
+    let mut wrong = false;
     let mut i: usize = 0;
     while i < samples.len() {
-        if mask < wide(samples[i]) {
-            return true;
-        }
+        wrong = wrong | (mask < wide(samples[i]));
         i += 1;
     }
-    false
+    wrong
 }
 
 // ---- a step

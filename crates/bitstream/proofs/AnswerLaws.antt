@@ -1,6 +1,6 @@
 -- What an answer of the code says of a payload's bits: a reader's, a field's, and a single bit's.
 -- Assumes nothing.
-use Prim.Native.Nat.{ℕ, _-_, _/_, _%_, _^_, _≤_, _<_}
+use Prim.Native.Nat.{ℕ, _+_, _-_, _/_, _%_, _^_, _≤_, _<_}
 use native.Mathlib.Omega.{arith}
 use mathlib.Core.Path.{_≡_, sym, ap, _∙_}
 use mathlib.Core.Bool.{Bool}
@@ -10,14 +10,22 @@ use lib.ListN.{length, drop, length-drop}
 use Rattle.bitstream.specs.Bits.{field, bitsOf}
 use Rattle.bitstream.specs.Reading.{got, refused, Reader, readField, readBits}
 use Rattle.bitstream.specs.Machine.{Step, refuses}
-use Rattle.bitstream.specs.Told.{Placed, numberOf, told, outcomeAt}
+use Rattle.bitstream.specs.Told.{Placed, numberOf, gives, told, outcome, outcomeAt}
 use Rattle.bitstream.specs.declared.Cursor.{Cursor}
 use Rattle.bitstream.specs.declared.Refusal.{Refusal}
 use Rattle.bitstream.specs.declared.Read.{Read}
 use Rattle.bitstream.specs.declared.Read.the-variants.{Value, No}
-use Rattle.bitstream.proofs.ReadLaws.{Local, readField-short, readField-all, readBits-field, field-readField, readBits-local, told-got, told-refused}
+use Rattle.bitstream.proofs.ReadLaws.{Local, readField-short, readField-all, readBits-field, field-readField, readBits-local, outcomeAt-fits, told-got, told-refused}
 
 -- ---- the reader m at bit `at`
+
+-- what it gives and how many bits it takes, as an answer says it
+pub told-taken : (m : Reader) (p : List ℕ) (at : ℕ) → Placed p at → (v k : ℕ) → m (drop at (bitsOf p)) ≡ got v (drop k (drop at (bitsOf p)))
+    → k ≤ length (drop at (bitsOf p)) → gives v (at + k) ≡ outcomeAt m p at
+told-taken m p at pl v k e h =
+    let bs : List Bool = drop at (bitsOf p) in
+    let n : at + (length bs - length (drop k bs)) ≡ at + k = omega (arith, length-drop k bs) in
+    sym (outcomeAt-fits m p at (pl .fits) ∙ ap (outcome at bs) e ∙ ap (gives v) n)
 
 module _ (m : Reader) (p : List ℕ) (at : ℕ) (r : Read) (pl : Placed p at) (e : told r ≡ outcomeAt m p at) where
   pub read-no : (why : Refusal) → r ≡ No why → m (drop at (bitsOf p)) ≡ refused (numberOf why)
@@ -62,7 +70,7 @@ bit-none (g ∷ u) k e =
     let x = readField-all 1 (g ∷ u) (omega arith) in
     absurd (let z : _≡_ {A = ℕ} 0 1 = cc in omega arith)
 
-bit-some : (bs : List Bool) (v : ℕ) (t : List Bool) → readField 1 bs ≡ got v t → bs ≡ eqb v 1 ∷ t
+pub bit-some : (bs : List Bool) (v : ℕ) (t : List Bool) → readField 1 bs ≡ got v t → bs ≡ eqb v 1 ∷ t
 unfolding field
 bit-some bs v t e =
     let f = field-readField 1 bs v t e in

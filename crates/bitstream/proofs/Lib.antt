@@ -9,3 +9,4 @@ pub mod PlaceLaws
 pub mod MachineLaws
 pub mod Unique
 pub mod Examples
+pub mod WindowLaws

@@ -4,7 +4,7 @@ use mathlib.Core.Path.{_≡_, refl, sym, ap, ap₂, _∙_}
 use mathlib.Core.Bool.{Bool, true, false, _&&_}
 use mathlib.Core.List.{List, [], _∷_, _++_}
 use Prim.Native.Nat.{ℕ, zero, suc, _+_, _-_, _*_, _/_, _%_, _^_, _≤_, _<_}
-use native.Mathlib.Nat.{mod-eq-of-lt, lt-of-lt-of-le}
+use native.Mathlib.Nat.{mod-eq-of-lt, mod-lt, lt-of-lt-of-le}
 use native.Mathlib.Numerals.{add-one}
 use native.Mathlib.Omega.{arith}
 use lib.Dec.{eqb}
@@ -14,6 +14,7 @@ use lib.ListN.{length, getD, take, drop, length-drop, length-take, take-append-d
 use lib.Seq.{drop-cons, drop-drop, drop-append-le, take-append-le, take-suc, getD-drop, length-take-le}
 use borrow.Author.Tests.{ne-eqb}
 use Rattle.common.proofs.Numbers.{shl-mod}
+use Rattle.bitstream.specs.Windows.{wordAt, Shows}
 use Rattle.bitstream.specs.Bits.{odd, val, field, number, bitsOf, zeros, ended}
 use Rattle.bitstream.proofs.FieldLaws.{length-field, drop-field, getD-field, number-field, number-lt, number-append, number-take, number-drop, number-take-lt, number-take-more}
 use Rattle.bitstream.proofs.BitsLaws.{length-bits, bits-append, bits-drop}
@@ -81,25 +82,23 @@ load-lt s i j h =
     lt-of-lt-of-le (number-lt (bitsOf (take j (drop i s)))) (pow-mono {j = 56} l)
 
 -- a part of a word, by the shifts that take it out
-pub number-part : (w : List Bool) (k n : ℕ) → length w ≡ 64 → k + n ≤ 64 → n < 64 → (number w * 2 ^ k) % 2 ^ 64 / 2 / 2 ^ (63 - n) ≡ number (take n (drop k w))
-number-part w k n len fits small =
+number-part : (w : List Bool) (k n : ℕ) → length w ≡ 64 → k + n ≤ 64 → (number w * 2 ^ k) % 2 ^ 64 / 2 ^ (64 - n) ≡ number (take n (drop k w))
+number-part w k n len fits =
     let x : ℕ = number (drop k w) in
     let a : 64 ≡ 64 - k + k = omega arith in
-    let m : 64 - k - n + k ≡ 1 + (63 - n) = omega arith in
+    let m : 64 - n ≡ k + (64 - k - n) = omega arith in
     let l : length (drop k w) ≡ n + (64 - k - n) = length-drop k w ∙ omega arith in
     let high-part : (number w * 2 ^ k) % 2 ^ 64 ≡ x * 2 ^ k =
     ap (λ (t : ℕ). (number w * 2 ^ k) % 2 ^ t) a ∙ shl-mod (number w) (64 - k) k ∙ ap (λ (y : ℕ). y * 2 ^ k) (number-drop w k (64 - k) (omega arith)) in
-    ap (λ (y : ℕ). y / 2 / 2 ^ (63 - n)) high-part
-    ∙ shr-shr (x * 2 ^ k) 1 (63 - n)
-    ∙ ap (λ (t : ℕ). x * 2 ^ k / 2 ^ t) (sym m ∙ omega arith)
+    ap₂ (λ (y t : ℕ). y / 2 ^ t) high-part m
     ∙ sym (shr-shr (x * 2 ^ k) k (64 - k - n))
     ∙ ap (λ (y : ℕ). y / 2 ^ (64 - k - n)) (shl-shr x k)
     ∙ number-take (drop k w) n (64 - k - n) l
 
--- the field at p, where eight bytes are left
-pub field-loaded : (s : List ℕ) (p n : ℕ) → p / 8 + 8 ≤ length s → n ≤ 32
-    → (number (bitsOf (take 8 (drop (p / 8) s))) * 2 ^ (p % 8)) % 2 ^ 64 / 2 / 2 ^ (63 - n) ≡ number (take n (drop p (bitsOf s)))
-field-loaded s p n room narrow =
+-- what is unread at p, where eight bytes are left
+pub word-shows : (s : List ℕ) (p : ℕ) → p / 8 + 8 ≤ length s → Shows 57 (wordAt s p) (drop p (bitsOf s))
+unfolding wordAt
+word-shows s p room =
     let i : ℕ = p / 8 in
     let w : List Bool = bitsOf (take 8 (drop i s)) in
     let t : List Bool = bitsOf (drop 8 (drop i s)) in
@@ -110,8 +109,12 @@ field-loaded s p n room narrow =
     ap (λ (x : ℕ). drop x (bitsOf s)) e ∙ sym (drop-drop k (8 * i) (bitsOf s))
     ∙ ap (drop k) (sym (bits-drop i s) ∙ ap bitsOf (sym (take-append-drop 8 (drop i s))) ∙ bits-append (take 8 (drop i s)) (drop 8 (drop i s)))
     ∙ drop-append-le k w t (omega arith) in
-    number-part w k n lw (omega arith) (omega arith)
-    ∙ sym (ap (λ (l : List Bool). number (take n l)) rest ∙ ap number (take-append-le n (drop k w) t (omega (arith, length-drop k w))))
+    record {
+      fits = mod-lt (number w * 2 ^ k) (pow-pos 64);
+      long = omega (arith, length-bits s, length-drop p (bitsOf s));
+      is = number-part w k 57 lw (omega arith)
+          ∙ sym (ap (λ (l : List Bool). number (take 57 l)) rest ∙ ap number (take-append-le 57 (drop k w) t (omega (arith, length-drop k w))));
+    }
 
 -- ---- the end of data
 

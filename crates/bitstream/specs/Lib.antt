@@ -4,3 +4,4 @@ pub mod Reading
 pub mod Told
 pub mod Puts
 pub mod Machine
+pub mod Windows

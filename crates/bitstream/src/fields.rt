@@ -1,10 +1,11 @@
 // What stands at a bit position of a payload.
 ghost use mathlib.Core.Path.{_≡_};
 ghost use mathlib.Core.Bool.{false};
-ghost use Prim.Native.Nat.{_+_, _-_, _*_, _%_, _≤_, _<_};
+ghost use Prim.Native.Nat.{_-_, _*_, _%_, _≤_, _<_};
 ghost use lib.ListN.{length, getD, take, drop};
 ghost use Rattle.bitstream.specs.Bits.{bitsOf, number, ended};
 ghost use Rattle.bitstream.specs.Told.{payloadLimit};
+use crate::windows;
 
 pub fn wide(x: u8) -> u64
     ensures { λ r. ⌜ r ≡ x ⌝ }
@@ -54,38 +55,14 @@ fn field_plain(payload: &[u8], p: usize, n: usize) -> u64
     v
 }
 
-// One byte more behind the j that w holds.
-fn load_more(payload: &[u8], i: usize, j: usize, w: u64) -> u64
-    requires { ⌜ (j < 8) × (i + j < length (now payload)) × (w ≡ number (bitsOf (take j (drop i (now payload))))) ⌝ }
-    ensures { λ r. ⌜ r ≡ number (bitsOf (take (j + 1) (drop i (now (payload .entry))))) ⌝ }
-{
-    w * 256 + wide(payload[i + j])
-}
-
-// Eight bytes from i on. Written out, they become one load.
-fn load8(payload: &[u8], i: usize) -> u64
-    requires { ⌜ i + 8 ≤ length (now payload) ⌝ }
-    ensures { λ r. ⌜ r ≡ number (bitsOf (take 8 (drop i (now (payload .entry))))) ⌝ }
-{
-    let a = load_more(payload, i, 0, 0);
-    let b = load_more(payload, i, 1, a);
-    let c = load_more(payload, i, 2, b);
-    let d = load_more(payload, i, 3, c);
-    let e = load_more(payload, i, 4, d);
-    let f = load_more(payload, i, 5, e);
-    let g = load_more(payload, i, 6, f);
-    load_more(payload, i, 7, g)
-}
-
 // The n bits at p, as a number.
 pub fn field_at(payload: &[u8], p: usize, n: u32) -> u32
     requires { ⌜ (length (now payload) ≤ payloadLimit) × (n ≤ 32) × (n ≤ length (drop p (bitsOf (now payload)))) ⌝ }
     ensures { λ r. ⌜ r ≡ number (take n (drop p (bitsOf (now (payload .entry))))) ⌝ }
 {
-    let i = p / 8;
-    if i + 8 <= payload.len() {
-        let w = load8(payload, i);
-        return (((w << (p % 8)) / 2) >> (63 - n)) as u32;
+    if p / 8 + 8 <= payload.len() {
+        let w = windows::window(payload, p);
+        return ((w / 2) >> (63 - n)) as u32;
     }
     field_plain(payload, p, n as usize) as u32
 }

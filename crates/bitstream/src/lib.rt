@@ -8,6 +8,7 @@ ghost use Rattle.bitstream.specs.Reading.{readBits, zeroPrefix};
 ghost use Rattle.bitstream.specs.Told.{payloadLimit, numberOf, told, outcome, outcomeAt};
 
 mod fields; // a bit, a field, the bytes that are left
+pub mod windows; // eight bytes at once
 
 // The most bytes that a payload to decode may have.
 pub const PAYLOAD_LIMIT: usize = 65536;

@@ -4,3 +4,4 @@ pub mod Integers
 pub mod Numbers
 pub mod Unique
 pub mod Table
+pub mod Flags

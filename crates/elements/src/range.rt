@@ -6,16 +6,16 @@ ghost use Rattle.elements.specs.Limits.{inRange};
 // The largest magnitude of a coefficient.
 pub const MOST: u32 = 536870911;
 
-// Whether any coefficient is out of range (refusal 4).
+// Whether any coefficient is out of range (refusal 4). All are looked at, without a branch, so that several go at once.
 pub fn out_of_range(coeffs: &[i32]) -> bool
     ensures { λ r. ⌜ r ≡ not (inRange (now (coeffs .entry))) ⌝ }
 {
+    let mut wrong = false;
     let mut i = 0;
     while i < coeffs.len() {
-        if MOST < signs::magnitude(coeffs[i]) {
-            return true;
-        }
+        let m = signs::magnitude(coeffs[i]);
+        wrong = wrong | (MOST < m);
         i += 1;
     }
-    false
+    wrong
 }

@@ -1,2 +1,3 @@
 pub mod StepAnswers
 pub mod Standing
+pub mod PairLaws

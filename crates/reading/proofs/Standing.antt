@@ -26,6 +26,7 @@ use Rattle.reading.specs.declared.Acs.{Acs}
 use Rattle.reading.specs.declared.RunStep.the-variants.{To as RunTo, No as NoRun}
 use Rattle.reading.specs.declared.LevelStep.{LevelStep}
 use Rattle.reading.specs.declared.LevelStep.the-variants.{To as LevelTo, No as NoLevel}
+use Rattle.books.proofs.BookLaws.{runBook-in-use, levelBook-in-use}
 use Rattle.elements.proofs.StepLaws.{step-ended, from-moved, from-stop, from-refused}
 
 -- ---- a list whose places from one on are 0, and a store among them
@@ -103,6 +104,7 @@ dcs-first B (suc b) out n some e d =
           (from-moved (first b (63 * suc b)) [] B _ _ _ (d .is b (63 * suc b))));
       range = d .keeps .range;
       due = omega arith;
+      book = d .keeps .book;
     }
 
 pub first-rejects : (B : List Bool) (blocks : ℕ) (why : Refusal) → 0 < blocks → DcStepped B firstDue (No why)
@@ -128,6 +130,7 @@ module _ {B : List Bool} {blocks n : ℕ} {s : Dcs} {out : List ℤ} (d : DcsSta
             ∙ ap (λ (l : List ℤ). from step finish (afterDc more (63 * blocks) (t .dc) (t .negative) (t .book)) (l ++ (t .dc ∷ [])) (drop (t .at) B)) none);
         range = g .keeps .range;
         due = omega arith;
+        book = g .keeps .book;
       }
 
   pub next-rejects : (why : Refusal) → n < blocks → DcStepped B (dcDue s) (No why) → Rejects (numberOf why) (decode blocks B)
@@ -145,7 +148,11 @@ module _ {B : List Bool} {blocks n : ℕ} {s : Dcs} {out : List ℤ} (d : DcsSta
       let a : Stands B blocks (run (63 * blocks) (runBook 4) (levelBook 1)) n (s .at) out =
       subst (λ (k : ℕ). Stands B blocks (afterDc k (63 * blocks) (s .dc) (s .negative) (s .book)) n (s .at) out) none (d .stands) in
       let b = subst (λ (k : ℕ). Stands B blocks (run (63 * blocks) (runBook 4) (levelBook 1)) k (s .at) out) e a in
-      record { stands = subst (λ (k : ℕ). Stands B blocks (run k (runBook 4) (levelBook 1)) blocks (s .at) out) rest b; room = omega arith }
+      record {
+        stands = subst (λ (k : ℕ). Stands B blocks (run k (runBook 4) (levelBook 1)) blocks (s .at) out) rest b;
+        room = omega arith;
+        books = record { runs = runBook-in-use 4; levels = levelBook-in-use 1 };
+      }
 
 -- ---- runs and levels
 
@@ -172,6 +179,7 @@ pair-on B total s n r (LevelTo v t) l =
       further = omega (arith, r .keeps .onward);
       room = omega (arith, r .keeps .room);
       within = l .keeps .within;
+      books = l .keeps .books;
     }
 
 run-full : (left : ℕ) (rb lb : Codebook) (bs : List Bool) → left ≡ 0 → step (run left rb lb) bs ≡ stop
@@ -188,6 +196,7 @@ module _ {B : List Bool} {blocks : ℕ} {s : Acs} {out : List ℤ} (a : AcsStand
             (omega (arith, g .further)) (omega (arith, g .further, g .room)) (g .within)
             (g .is (take (s .place) out)));
         room = g .room;
+        books = g .books;
       }
 
   -- a refusal is the whole reading's

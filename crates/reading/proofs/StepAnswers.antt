@@ -12,16 +12,19 @@ use lib.ListN.{length, drop}
 use borrow.Author.Tests.{lt-ltb, le-ltb, ne-eqb}
 use Rattle.common.proofs.Choices.{cond-yes, cond-no}
 use Rattle.bitstream.specs.Bits.{bitsOf, ended}
-use Rattle.bitstream.specs.Reading.{Parsed, got, refused, readBits}
+use Rattle.bitstream.specs.Reading.{Parsed, got, refused, Reader, readBits}
 use Rattle.bitstream.specs.Machine.{moved, refuses}
 use Rattle.bitstream.specs.Told.{Placed, numberOf, told, outcomeAt}
 use Rattle.bitstream.specs.declared.Cursor.{Cursor}
 use Rattle.bitstream.specs.declared.Refusal.{Refusal}
-use Rattle.bitstream.specs.declared.Refusal.the-variants.{Overrun, Range}
+use Rattle.bitstream.specs.declared.Refusal.the-variants.{Overrun}
 use Rattle.bitstream.specs.declared.Read.{Read}
 use Rattle.bitstream.specs.declared.Read.the-variants.{Value, No as Unread}
+use Rattle.bitstream.proofs.ReadLaws.{Local}
 use Rattle.bitstream.proofs.AnswerLaws.{read-no, read-got, read-placed, bit-no, bit-got, bit-placed}
 use Rattle.codeword.specs.Codewords.{readCode}
+use Rattle.codeword.specs.Words.{InUse}
+use Rattle.books.proofs.BookLaws.{dcBook-in-use, runBook-in-use, levelBook-in-use}
 use Rattle.books.specs.Books.{firstBook, dcBook, runBook, levelBook}
 use Rattle.signs.specs.Signs.{isNegative, integerOf, turned}
 use Rattle.codeword.specs.declared.Codebook.{Codebook}
@@ -29,15 +32,17 @@ use Rattle.codeword.proofs.ReadCodeLaws.{readCode-local}
 use Rattle.elements.specs.Limits.{most}
 use Rattle.elements.specs.Decoding.{nil, first, next, run, level, onRead, afterDc, dcTo, nextTo, runTo, signed, levelTo, step}
 use Rattle.elements.specs.Values.{dcOf, firstDc, nextDc, levelOf}
-use Rattle.reading.specs.Steps.{RunDue, firstDue, dcDue, dcStepOf, dcSays, DcKeeps, DcStepped, RunStepped, levelDue, signDue, LevelStepped}
+use Rattle.reading.specs.Steps.{RunDue, Gives, HasBit, firstDue, dcDue, dcStepOf, dcSays, DcKeeps, DcStepped, behindRun, RunStepped}
+use Rattle.reading.specs.Steps.{levelStepOf, levelDue, signDue, levelSays, LevelKeeps, LevelStepped}
 use Rattle.elements.specs.declared.values.Dc.the-variants.{Is, Out}
+use Rattle.elements.specs.declared.values.Level.{Level}
 use Rattle.elements.specs.declared.values.Level.the-variants.{Is as LevelIs, Out as LevelOut}
 use Rattle.reading.specs.declared.Dcs.{Dcs}
 use Rattle.reading.specs.declared.DcStep.the-variants.{No}
 use Rattle.reading.specs.declared.Acs.{Acs}
 use Rattle.reading.specs.declared.RunStep.the-variants.{To as RunTo, No as NoRun}
 use Rattle.reading.specs.declared.LevelStep.{LevelStep}
-use Rattle.reading.specs.declared.LevelStep.the-variants.{To as LevelTo, No as NoLevel}
+use Rattle.reading.specs.declared.LevelStep.the-variants.{No as NoLevel}
 use Rattle.elements.proofs.ValueLaws.{dc-range}
 
 -- ---- a DC
@@ -56,7 +61,7 @@ unfolding dcStepOf
 dcOf-keeps B z neg m q h = go (dcOf z neg m) refl
   where
     go : (d : _) → dcOf z neg m ≡ d → DcKeeps B (dcStepOf d q)
-    go (Is x b n) e = record { range = dc-range z neg m e; within = h }
+    go (Is x b n) e = record { range = dc-range z neg m e; within = h; book = dcBook-in-use n }
     go Out e = tt
 
 module _ (more left : ℕ) (bs : List Bool) where
@@ -118,25 +123,21 @@ module _ (left : ℕ) (rb lb : Codebook) (bs : List Bool) where
   unfolding step
   level-got s t e = ap (λ (x : Parsed). onRead x (λ s t. levelTo left rb s t)) e
 
--- behind the level's symbol s, where the sign's bit is read
-module _ (left : ℕ) (rb : Codebook) (s v : ℕ) (bs t : List Bool) (e : bs ≡ eqb v 1 ∷ t) where
-  sign-out : levelOf (eqb v 1) s ≡ LevelOut → levelTo left rb s bs ≡ refuses 8
-  unfolding levelTo levelOf
-  sign-out o = ap (levelTo left rb s) e ∙ go (ltb s most) o
-    where
-      go : (b : Bool) → cond b (LevelIs (signed (eqb v 1) s)) LevelOut ≡ LevelOut
-          → cond b (moved (run (left - 1) rb (levelBook s)) (signed (eqb v 1) s ∷ []) t) (refuses 8) ≡ refuses 8
-      go true q = absurd (let z : _≡_ {A = ℕ} 0 1 = cc in omega arith)
-      go false q = refl
+-- behind the level's symbol, where the sign's bit is read
+sign-says : (B : List Bool) (left : ℕ) (s : Acs) (symbol p : ℕ) (b : Bool) (q : ℕ) → HasBit B p b q
+    → levelTo left (s .runs) symbol (drop p B) ≡ levelSays B left (levelStepOf (levelOf b symbol) s symbol q)
+unfolding levelTo levelOf levelStepOf
+sign-says B left s symbol p b q h = ap (levelTo left (s .runs) symbol) (h .is) ∙ go (ltb symbol most)
+  where
+    go : (c : Bool) → cond c (moved (run (left - 1) (s .runs) (levelBook symbol)) (signed b symbol ∷ []) (drop q B)) (refuses 8)
+        ≡ levelSays B left (levelStepOf (cond c (LevelIs (signed b symbol)) LevelOut) s symbol q)
+    go true = refl
+    go false = refl
 
-  sign-got : (x : ℤ) → levelOf (eqb v 1) s ≡ LevelIs x → levelTo left rb s bs ≡ moved (run (left - 1) rb (levelBook s)) (x ∷ []) t
-  unfolding levelTo levelOf
-  sign-got x o = ap (levelTo left rb s) e ∙ go (ltb s most) o
-    where
-      go : (b : Bool) → cond b (LevelIs (signed (eqb v 1) s)) LevelOut ≡ LevelIs x
-          → cond b (moved (run (left - 1) rb (levelBook s)) (signed (eqb v 1) s ∷ []) t) (refuses 8) ≡ moved (run (left - 1) rb (levelBook s)) (x ∷ []) t
-      go true q = let a : signed (eqb v 1) s ≡ x = cc in ap (λ (z : ℤ). moved (run (left - 1) rb (levelBook s)) (z ∷ []) t) a
-      go false q = absurd (let z : _≡_ {A = ℕ} 0 1 = cc in omega arith)
+levelOf-keeps : (B : List Bool) (x : Level) (s : Acs) (symbol q : ℕ) → q ≤ length B → InUse (s .runs) → LevelKeeps B (s .place) (levelStepOf x s symbol q)
+unfolding levelStepOf
+levelOf-keeps B (LevelIs v) s symbol q h used = record { onward = refl; within = h; books = record { runs = used; levels = levelBook-in-use symbol } }
+levelOf-keeps B LevelOut s symbol q h used = tt
 
 -- ---- what the functions answer
 
@@ -172,76 +173,63 @@ module _ (p : List ℕ) (r : Read) where
           keeps = next-keeps B (s .dc) (s .negative) v (c .at) (read-placed (readCode (s .book)) p (s .at) r pl e l v c q .within);
         }
 
-  module _ (total : ℕ) (s : Acs) (pl : Placed p (s .at)) (due : RunDue (bitsOf p) total s) (e : told r ≡ outcomeAt (readCode (s .runs)) p (s .at)) where
-    some : 0 < total - s .place
-    some = omega (arith, due .room)
+  -- the same of a payload's bits
+  module _ (m : Reader) (local : Local m) (at : ℕ) (pl : Placed p at) (e : told r ≡ outcomeAt m p at) where
+    pub read-gives : (v : ℕ) (c : Cursor) → r ≡ Value v c → Gives m B at v (c .at)
+    read-gives v c q = record { is = read-got m p at r pl e local v c q; within = read-placed m p at r pl e local v c q .within }
 
-    pub run-stepped-no : (why : Refusal) → r ≡ Unread why → RunStepped B total s (NoRun why)
-    run-stepped-no why q =
-        record {
-          is = run-no (total - s .place) (s .runs) (s .levels) (drop (s .at) B) some (due .more) (numberOf why) (read-no (readCode (s .runs)) p (s .at) r pl e why q);
-          keeps = tt;
-        }
+  pub has-bit : (at : ℕ) → Placed p at → told r ≡ outcomeAt (readBits 1) p at → (v : ℕ) (c : Cursor) → r ≡ Value v c → HasBit B at (eqb v 1) (c .at)
+  has-bit at pl e v c q = record { is = bit-got p at r pl e v c q; within = bit-placed p at r pl e v c q .within }
 
-    module _ (n : ℕ) (c : Cursor) (q : r ≡ Value n c) where
-      taken : readCode (s .runs) (drop (s .at) B) ≡ got n (drop (c .at) B)
-      taken = read-got (readCode (s .runs)) p (s .at) r pl e (readCode-local (s .runs)) n c q
+  pub run-stepped-no : (total : ℕ) (s : Acs) → Placed p (s .at) → RunDue B total s → told r ≡ outcomeAt (readCode (s .runs)) p (s .at)
+      → (why : Refusal) → r ≡ Unread why → RunStepped B total s (NoRun why)
+  run-stepped-no total s pl due e why q =
+      record {
+        is = run-no (total - s .place) (s .runs) (s .levels) (drop (s .at) B) (omega (arith, due .room)) (due .more) (numberOf why)
+            (read-no (readCode (s .runs)) p (s .at) r pl e why q);
+        keeps = tt;
+      }
 
-      pub run-stepped-far : total - s .place ≤ n → RunStepped B total s (NoRun Overrun)
-      run-stepped-far l = record { is = run-far (total - s .place) (s .runs) (s .levels) (drop (s .at) B) some (due .more) n (drop (c .at) B) taken l; keeps = tt }
+  pub sign-stepped-no : (s : Acs) (symbol at : ℕ) → Placed p at → told r ≡ outcomeAt (readBits 1) p at
+      → (why : Refusal) → r ≡ Unread why → LevelStepped B (s .place) (signDue s symbol at) (NoLevel why)
+  unfolding levelTo
+  sign-stepped-no s symbol at pl e why q = record { is = λ left. bit-no p at r pl e why q (levelTo left (s .runs) symbol) refl; keeps = tt }
 
-      pub run-stepped : n < total - s .place → RunStepped B total s (RunTo (record { at = c .at; place = s .place + n; runs = runBook n; levels = s .levels }))
-      run-stepped l =
-          let a : total - s .place - n ≡ total - (s .place + n) = omega arith in
-          let b : n ≡ s .place + n - s .place = omega arith in
-          record {
-            is = run-got (total - s .place) (s .runs) (s .levels) (drop (s .at) B) some (due .more) n (drop (c .at) B) taken l
-                ∙ ap₂ (λ (i j : ℕ). moved (level i (runBook n) (s .levels)) (nil j) (drop (c .at) B)) a b;
-            keeps = record {
-              onward = omega arith;
-              room = omega arith;
-              within = read-placed (readCode (s .runs)) p (s .at) r pl e (readCode-local (s .runs)) n c q .within;
-            };
-          }
+  pub level-stepped-no : (s : Acs) → Placed p (s .at) → told r ≡ outcomeAt (readCode (s .levels)) p (s .at)
+      → (why : Refusal) → r ≡ Unread why → LevelStepped B (s .place) (levelDue s) (NoLevel why)
+  level-stepped-no s pl e why q =
+      record {
+        is = λ left. level-no left (s .runs) (s .levels) (drop (s .at) B) (numberOf why) (read-no (readCode (s .levels)) p (s .at) r pl e why q);
+        keeps = tt;
+      }
 
-  module _ (s : Acs) (symbol at : ℕ) (pl : Placed p at) (e : told r ≡ outcomeAt (readBits 1) p at) where
-    pub sign-stepped-no : (why : Refusal) → r ≡ Unread why → LevelStepped B (s .place) (signDue s symbol at) (NoLevel why)
-    unfolding levelTo
-    sign-stepped-no why q = record { is = λ left. bit-no p at r pl e why q (levelTo left (s .runs) symbol) refl; keeps = tt }
+-- ---- what was read leads on, wherever it was seen
 
-    module _ (v : ℕ) (c : Cursor) (q : r ≡ Value v c) where
-      bit : drop at B ≡ eqb v 1 ∷ drop (c .at) B
-      bit = bit-got p at r pl e v c q
+module _ (B : List Bool) (total : ℕ) (s : Acs) (due : RunDue B total s) (n at : ℕ) (g : Gives (readCode (s .runs)) B (s .at) n at) where
+  some : 0 < total - s .place
+  some = omega (arith, due .room)
 
-      pub sign-stepped-out : levelOf (eqb v 1) symbol ≡ LevelOut → LevelStepped B (s .place) (signDue s symbol at) (NoLevel Range)
-      sign-stepped-out o = record { is = λ left. sign-out left (s .runs) symbol v (drop at B) (drop (c .at) B) bit o; keeps = tt }
+  pub run-stepped-far : total - s .place ≤ n → RunStepped B total s (NoRun Overrun)
+  run-stepped-far l =
+      record { is = run-far (total - s .place) (s .runs) (s .levels) (drop (s .at) B) some (due .more) n (drop at B) (g .is) l; keeps = tt }
 
-      pub sign-stepped : (x : ℤ) → levelOf (eqb v 1) symbol ≡ LevelIs x
-          → LevelStepped B (s .place) (signDue s symbol at) (LevelTo x (record { at = c .at; place = s .place + 1; runs = s .runs; levels = levelBook symbol }))
-      sign-stepped x o =
-          record {
-            is = λ left. sign-got left (s .runs) symbol v (drop at B) (drop (c .at) B) bit x o;
-            keeps = record { onward = refl; within = bit-placed p at r pl e v c q .within };
-          }
+  pub run-stepped : n < total - s .place → RunStepped B total s (RunTo (behindRun s n at))
+  run-stepped l =
+      let a : total - s .place - n ≡ total - (s .place + n) = omega arith in
+      let b : n ≡ s .place + n - s .place = omega arith in
+      record {
+        is = run-got (total - s .place) (s .runs) (s .levels) (drop (s .at) B) some (due .more) n (drop at B) (g .is) l
+            ∙ ap₂ (λ (i j : ℕ). moved (level i (runBook n) (s .levels)) (nil j) (drop at B)) a b;
+        keeps = record { onward = omega arith; room = omega arith; within = g .within; books = record { runs = runBook-in-use n; levels = due .books .levels } };
+      }
 
-  module _ (s : Acs) (pl : Placed p (s .at)) (e : told r ≡ outcomeAt (readCode (s .levels)) p (s .at)) where
-    pub level-stepped-no : (why : Refusal) → r ≡ Unread why → LevelStepped B (s .place) (levelDue s) (NoLevel why)
-    level-stepped-no why q =
-        record {
-          is = λ left. level-no left (s .runs) (s .levels) (drop (s .at) B) (numberOf why) (read-no (readCode (s .levels)) p (s .at) r pl e why q);
-          keeps = tt;
-        }
+pub sign-stepped : (B : List Bool) (s : Acs) (symbol p : ℕ) (b : Bool) (q : ℕ) → HasBit B p b q → InUse (s .runs)
+    → LevelStepped B (s .place) (signDue s symbol p) (levelStepOf (levelOf b symbol) s symbol q)
+sign-stepped B s symbol p b q h used =
+    record { is = λ left. sign-says B left s symbol p b q h; keeps = levelOf-keeps B (levelOf b symbol) s symbol q (h .within) used }
 
-    module _ (v : ℕ) (c : Cursor) (q : r ≡ Value v c) where
-      pub sign-placed : Placed p (c .at)
-      sign-placed = read-placed (readCode (s .levels)) p (s .at) r pl e (readCode-local (s .levels)) v c q
-
-      -- the sign is read next
-      pub level-stepped : (x : LevelStep) → LevelStepped B (s .place) (signDue s v (c .at)) x → LevelStepped B (s .place) (levelDue s) x
-      level-stepped x l =
-          record {
-            is = λ left.
-                level-got left (s .runs) (s .levels) (drop (s .at) B) v (drop (c .at) B) (read-got (readCode (s .levels)) p (s .at) r pl e (readCode-local (s .levels)) v c q)
-                ∙ l .is left;
-            keeps = l .keeps;
-          }
+-- the sign is read next
+pub level-stepped : (B : List Bool) (s : Acs) (v at : ℕ) → Gives (readCode (s .levels)) B (s .at) v at → (x : LevelStep)
+    → LevelStepped B (s .place) (signDue s v at) x → LevelStepped B (s .place) (levelDue s) x
+level-stepped B s v at g x l =
+    record { is = λ left. level-got left (s .runs) (s .levels) (drop (s .at) B) v (drop at B) (g .is) ∙ l .is left; keeps = l .keeps }

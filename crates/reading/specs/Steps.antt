@@ -5,18 +5,24 @@ use mathlib.Core.Bool.{Bool, false}
 use mathlib.Core.List.{List, [], _∷_, _++_}
 use lib.IntN.{ℤ, natAbs}
 use lib.ListN.{length, take, drop}
+use Rattle.bitstream.specs.Reading.{got, Reader}
 use Rattle.bitstream.specs.Machine.{moved, refuses, Rejects, from}
 use Rattle.bitstream.specs.Bits.{ended}
 use Rattle.bitstream.specs.Told.{numberOf}
 use Rattle.bitstream.specs.declared.Refusal.the-variants.{Range}
 use Rattle.bitstream.specs.declared.Reached.{Reached}
 use Rattle.bitstream.specs.declared.Reached.the-variants.{At, No as Stopped}
+use Rattle.codeword.specs.Codewords.{readCode}
+use Rattle.codeword.specs.Words.{InUse}
 use Rattle.books.specs.Books.{dcBook, runBook, levelBook}
+use Rattle.peeking.specs.declared.Peeked.{Peeked}
 use Rattle.elements.specs.Limits.{most}
 use Rattle.elements.specs.Decoding.{nil, State, first, next, run, level, StepC, OutC, afterDc, levelTo, step, finish, decode}
 use Rattle.elements.specs.Answers.{read, refuse, Decoding, decoding, settled}
 use Rattle.elements.specs.declared.values.Dc.{Dc}
 use Rattle.elements.specs.declared.values.Dc.the-variants.{Is, Out}
+use Rattle.elements.specs.declared.values.Level.{Level}
+use Rattle.elements.specs.declared.values.Level.the-variants.{Is as LevelIs, Out as LevelOut}
 use Rattle.reading.specs.declared.Dcs.{Dcs}
 use Rattle.reading.specs.declared.DcStep.{DcStep}
 use Rattle.reading.specs.declared.DcStep.the-variants.{To, No}
@@ -28,10 +34,26 @@ use Rattle.reading.specs.declared.LevelStep.the-variants.{To as LevelTo,
 
 -- ---- what a step may ask for
 
+-- both codebooks are in use
+pub record Booked (s : Acs) : Type 0 where
+  pub runs : InUse (s .runs)
+  pub levels : InUse (s .levels)
+
 -- a run is due at s
 pub record RunDue (B : List Bool) (total : ℕ) (s : Acs) : Type 0 where
   pub room : s .place < total
   pub more : ended (drop (s .at) B) ≡ false
+  pub books : Booked s
+
+-- at bit p, the reader m gives v, and bit q is the next
+pub record Gives (m : Reader) (B : List Bool) (p v q : ℕ) : Type 0 where
+  pub is : m (drop p B) ≡ got v (drop q B)
+  pub within : q ≤ length B
+
+-- the bit at p, and bit q is the next
+pub record HasBit (B : List Bool) (p : ℕ) (b : Bool) (q : ℕ) : Type 0 where
+  pub is : drop p B ≡ b ∷ drop q B
+  pub within : q ≤ length B
 
 -- ---- a DC, with `more` DCs due behind it and `left` AC places
 
@@ -53,6 +75,7 @@ dcSays B more left (No why) = refuses (numberOf why)
 pub record DcsIn (B : List Bool) (n : Dcs) : Type 0 where
   pub range : natAbs (n .dc) ≤ most
   pub within : n .at ≤ length B
+  pub book : InUse (n .book)
 
 abbrev pub DcKeeps : List Bool → DcStep → Type 0
 DcKeeps B (To n) = DcsIn B n
@@ -64,6 +87,9 @@ pub record DcStepped (B : List Bool) (due : List Bool → ℕ → ℕ → StepC)
 
 -- ---- a run: it is due at s, and the level behind it at the state that is answered
 
+abbrev pub behindRun : Acs → ℕ → ℕ → Acs
+behindRun s n at = record { at = at; place = s .place + n; runs = runBook n; levels = s .levels }
+
 abbrev pub runSays : List Bool → ℕ → Acs → RunStep → StepC
 runSays B total s (RunTo n) = moved (level (total - n .place) (n .runs) (n .levels)) (nil (n .place - s .place)) (drop (n .at) B)
 runSays B total s (NoRun why) = refuses (numberOf why)
@@ -72,6 +98,7 @@ pub record RunIn (B : List Bool) (total : ℕ) (s n : Acs) : Type 0 where
   pub onward : s .place ≤ n .place
   pub room : n .place < total
   pub within : n .at ≤ length B
+  pub books : Booked n
 
 abbrev pub RunKeeps : List Bool → ℕ → Acs → RunStep → Type 0
 RunKeeps B total s (RunTo n) = RunIn B total s n
@@ -82,6 +109,10 @@ pub record RunStepped (B : List Bool) (total : ℕ) (s : Acs) (r : RunStep) : Ty
   pub keeps : RunKeeps B total s r
 
 -- ---- a level with its sign, with `left` places left before it; and the sign alone, behind the level's symbol
+
+unfoldable pub levelStepOf : Level → Acs → ℕ → ℕ → LevelStep
+levelStepOf (LevelIs v) s symbol at = LevelTo v (record { at = at; place = s .place + 1; runs = s .runs; levels = levelBook symbol })
+levelStepOf LevelOut s symbol at = NoLevel Range
 
 abbrev pub levelDue : Acs → List Bool → ℕ → StepC
 levelDue s B left = step (level left (s .runs) (s .levels)) (drop (s .at) B)
@@ -96,6 +127,7 @@ levelSays B left (NoLevel why) = refuses (numberOf why)
 pub record LevelIn (B : List Bool) (place : ℕ) (n : Acs) : Type 0 where
   pub onward : n .place ≡ place + 1
   pub within : n .at ≤ length B
+  pub books : Booked n
 
 abbrev pub LevelKeeps : List Bool → ℕ → LevelStep → Type 0
 LevelKeeps B place (LevelTo v n) = LevelIn B place n
@@ -115,10 +147,17 @@ pub record PairTo (B : List Bool) (total : ℕ) (s : Acs) (v : ℤ) (n : Acs) : 
   pub further : s .place < n .place
   pub room : n .place ≤ total
   pub within : n .at ≤ length B
+  pub books : Booked n
 
 abbrev pub PairStepped : List Bool → ℕ → Acs → LevelStep → Type 0
 PairStepped B total s (LevelTo v n) = PairTo B total s v n
 PairStepped B total s (NoLevel why) = (out : List ℤ) → Rejects (numberOf why) (fromRun B total s out)
+
+-- they were seen: a run, a level and its sign
+pub record PairShown (B : List Bool) (s : Acs) (run level : Peeked) (negative : Bool) : Type 0 where
+  pub first : Gives (readCode (s .runs)) B (s .at) (run .value) (s .at + run .len)
+  pub second : Gives (readCode (s .levels)) B (s .at + run .len) (level .value) (s .at + run .len + level .len)
+  pub sign : HasBit B (s .at + run .len + level .len) negative (s .at + run .len + level .len + 1)
 
 -- ---- where a reading stands: at bit `at`, with `place` coefficients of the list settled and the others 0
 
@@ -133,11 +172,13 @@ pub record DcsStand (B : List Bool) (blocks n : ℕ) (s : Dcs) (out : List ℤ) 
   pub stands : Stands B blocks (afterDc (blocks - n) (63 * blocks) (s .dc) (s .negative) (s .book)) n (s .at) out
   pub range : natAbs (s .dc) ≤ most
   pub due : n ≤ blocks
+  pub book : InUse (s .book)
 
 -- a run is due next, if places remain
 pub record AcsStand (B : List Bool) (blocks : ℕ) (s : Acs) (out : List ℤ) : Type 0 where
   pub stands : Stands B blocks (run (64 * blocks - s .place) (s .runs) (s .levels)) (s .place) (s .at) out
   pub room : s .place ≤ 64 * blocks
+  pub books : Booked s
 
 -- ---- the DCs, and the whole
 

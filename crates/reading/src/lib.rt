@@ -1,23 +1,27 @@
 // Reading scanned coefficients, an element at a time: the reading half of entropy.rs. One loop reads the DCs and one the runs and levels; a refusal goes up as it is.
 ghost use mathlib.Core.Path.{_≡_};
-ghost use Prim.Native.Nat.{_*_, _≤_, _<_};
+ghost use Prim.Native.Nat.{_+_, _*_, _≤_, _<_};
 ghost use lib.IntN.{natAbs};
 ghost use lib.ListN.{length};
 ghost use Rattle.bitstream.specs.Bits.{bitsOf};
 ghost use Rattle.bitstream.specs.Told.{payloadLimit, Placed};
+ghost use Rattle.codeword.specs.Words.{InUse};
 ghost use Rattle.elements.specs.Limits.{most};
 ghost use Rattle.elements.specs.Decoding.{nil};
 ghost use Rattle.elements.specs.Limits.{blockLimit};
-ghost use Rattle.reading.specs.Steps.{RunDue, dcStepOf, firstDue, dcDue, DcStepped, RunStepped, levelDue, signDue, LevelStepped, PairStepped};
+ghost use Rattle.reading.specs.Steps.{RunDue, dcStepOf, firstDue, dcDue, DcStepped, behindRun, RunStepped, levelStepOf, levelDue, signDue, LevelStepped};
+ghost use Rattle.reading.specs.Steps.{PairShown, PairStepped};
 ghost use Rattle.reading.specs.Steps.{DcsStand, AcsStand, behindDcs, DcsRead, reachedSays, answerOf};
 use bitstream::Cursor;
 use bitstream::Reached;
 use bitstream::Read;
 use bitstream::Refusal;
+use bitstream::windows;
 use codeword::Codebook;
 use elements::values;
 use elements::values::Dc;
 use elements::values::Level;
+use peeking::Peeked;
 
 // What the next DC looks back at: where it begins, the last DC, the last difference's sign and the codebook that its magnitude chose.
 struct Dcs {
@@ -65,11 +69,11 @@ fn first_step(payload: &[u8]) -> DcStep
 }
 
 fn dc_step(payload: &[u8], s: Dcs) -> DcStep
-    requires { ⌜ Placed (now payload) (s .at) × (natAbs (s .dc) ≤ most) ⌝ }
+    requires { ⌜ Placed (now payload) (s .at) × (natAbs (s .dc) ≤ most) × InUse (s .book) ⌝ }
     ensures { λ r. ⌜ DcStepped (bitsOf (now (payload .entry))) (dcDue s) r ⌝ }
 {
     let book = s.book;
-    let read = book.read(payload, Cursor { at: s.at });
+    let read = peeking::read(book, payload, s.at);
     match read {
         Read::No(why) => DcStep::No(why),
         Read::Value { value, next } => dc_to(values::next_dc(s.dc, s.negative, value), next.at),
@@ -133,9 +137,23 @@ enum LevelStep {
     No(Refusal),
 }
 
-// A run: the level that is due stands at its end.
+// Where a run leads that ends at the bit `at`: the level that is due stands at its end.
+fn run_to(s: Acs, run: u32, at: usize) -> Acs
+    requires { ⌜ s .place + run < 2048 ⌝ }
+    ensures { λ r. ⌜ r ≡ behindRun s run at ⌝ }
+{
+    let runs = books::run_codebook(run);
+    let levels = s.levels;
+    Acs {
+        at,
+        place: s.place + run as usize,
+        runs,
+        levels,
+    }
+}
+
 fn run_step(payload: &[u8], total: usize, s: Acs) -> RunStep
-    requires { ⌜ Placed (now payload) (s .at) × RunDue (bitsOf (now payload)) total s ⌝ }
+    requires { ⌜ Placed (now payload) (s .at) × RunDue (bitsOf (now payload)) total s × (total ≤ 2048) ⌝ }
     ensures { λ r. ⌜ RunStepped (bitsOf (now (payload .entry))) total s r ⌝ }
 {
     let book = s.runs;
@@ -146,51 +164,54 @@ fn run_step(payload: &[u8], total: usize, s: Acs) -> RunStep
             if total - s.place <= value as usize {
                 return RunStep::No(Refusal::Overrun);
             }
-            let runs = books::run_codebook(value);
-            let levels = s.levels;
-            RunStep::To(Acs {
-                at: next.at,
-                place: s.place + value as usize,
-                runs,
-                levels,
-            })
+            RunStep::To(run_to(s, value, next.at))
+        }
+    }
+}
+
+// Where a level leads whose sign ends at the bit `at`.
+fn level_to(level: Level, s: Acs, symbol: u32, at: usize) -> LevelStep
+    requires { ⌜ s .place < 2048 ⌝ }
+    ensures { λ r. ⌜ r ≡ levelStepOf level s symbol at ⌝ }
+{
+    match level {
+        Level::Out => LevelStep::No(Refusal::Range),
+        Level::Is(v) => {
+            let runs = s.runs;
+            let levels = books::level_codebook(symbol);
+            let place = s.place + 1;
+            LevelStep::To(
+                v,
+                Acs {
+                    at,
+                    place,
+                    runs,
+                    levels,
+                },
+            )
         }
     }
 }
 
 // The sign of the level whose symbol was read, and the level.
 fn sign_step(payload: &[u8], s: Acs, symbol: u32, at: usize) -> LevelStep
-    requires { ⌜ Placed (now payload) at × (s .place < 2048) ⌝ }
+    requires { ⌜ Placed (now payload) at × (s .place < 2048) × InUse (s .runs) ⌝ }
     ensures { λ r. ⌜ LevelStepped (bitsOf (now (payload .entry))) (s .place) (signDue s symbol at) r ⌝ }
 {
     let read = Cursor { at }.read_bit(payload);
     match read {
         Read::No(short) => LevelStep::No(short),
-        Read::Value { value, next } => {
-            let level = values::level_of(value == 1, symbol);
-            match level {
-                Level::Out => LevelStep::No(Refusal::Range),
-                Level::Is(v) => {
-                    let runs = s.runs;
-                    let levels = books::level_codebook(symbol);
-                    let place = s.place + 1;
-                    LevelStep::To(
-                        v,
-                        Acs {
-                            at: next.at,
-                            place,
-                            runs,
-                            levels,
-                        },
-                    )
-                }
-            }
-        }
+        Read::Value { value, next } => level_to(
+            values::level_of(value == 1, symbol),
+            s,
+            symbol,
+            next.at,
+        ),
     }
 }
 
 fn level_step(payload: &[u8], s: Acs) -> LevelStep
-    requires { ⌜ Placed (now payload) (s .at) × (s .place < 2048) ⌝ }
+    requires { ⌜ Placed (now payload) (s .at) × (s .place < 2048) × InUse (s .runs) ⌝ }
     ensures { λ r. ⌜ LevelStepped (bitsOf (now (payload .entry))) (s .place) (levelDue s) r ⌝ }
 {
     let book = s.levels;
@@ -201,8 +222,8 @@ fn level_step(payload: &[u8], s: Acs) -> LevelStep
     }
 }
 
-// A run and its level.
-fn pair_step(payload: &[u8], total: usize, s: Acs) -> LevelStep
+// A run and its level, one after the other.
+fn plain_pair(payload: &[u8], total: usize, s: Acs) -> LevelStep
     requires { ⌜ Placed (now payload) (s .at) × RunDue (bitsOf (now payload)) total s × (total ≤ 2048) ⌝ }
     ensures { λ r. ⌜ PairStepped (bitsOf (now (payload .entry))) total s r ⌝ }
 {
@@ -211,6 +232,53 @@ fn pair_step(payload: &[u8], total: usize, s: Acs) -> LevelStep
         RunStep::No(why) => LevelStep::No(why),
         RunStep::To(next) => level_step(payload, next),
     }
+}
+
+// A run, a level and its sign that were seen in one word.
+fn shown_pair(
+    payload: &[u8],
+    total: usize,
+    s: Acs,
+    run: Peeked,
+    level: Peeked,
+    negative: bool,
+) -> LevelStep
+    requires { ⌜ Placed (now payload) (s .at) × RunDue (bitsOf (now payload)) total s × (total ≤ 2048) × PairShown (bitsOf (now payload)) s run level negative ⌝ }
+    ensures { λ r. ⌜ PairStepped (bitsOf (now (payload .entry))) total s r ⌝ }
+{
+    if total - s.place <= run.value as usize {
+        return LevelStep::No(Refusal::Overrun);
+    }
+    let next = run_to(s, run.value, s.at + run.len as usize);
+    let end = s.at + run.len as usize + level.len as usize + 1;
+    level_to(
+        values::level_of(negative, level.value),
+        next,
+        level.value,
+        end,
+    )
+}
+
+// A run and its level: nearly always one word shows both with the sign, and nothing else is read.
+fn pair_step(payload: &[u8], total: usize, s: Acs) -> LevelStep
+    requires { ⌜ Placed (now payload) (s .at) × RunDue (bitsOf (now payload)) total s × (total ≤ 2048) ⌝ }
+    ensures { λ r. ⌜ PairStepped (bitsOf (now (payload .entry))) total s r ⌝ }
+{
+    if payload.len() < s.at / 8 + 8 {
+        return plain_pair(payload, total, s);
+    }
+    let w = windows::window(payload, s.at);
+    let runs = s.runs;
+    let run = peeking::peek(runs, w);
+    let behind = w << (run.len % 64);
+    let levels = s.levels;
+    let level = peeking::peek(levels, behind);
+    let used = run.len + level.len + 1;
+    if peeking::SHOWN < used {
+        return plain_pair(payload, total, s);
+    }
+    let sign = (behind << level.len) >> 63;
+    shown_pair(payload, total, s, run, level, sign == 1)
 }
 
 // The runs and levels from the bit `at` on, behind the DCs.

@@ -1,6 +1,10 @@
 -- `reading::level_step` meets its contract.
 -- Assumes nothing.
-use Rattle.reading.proofs.StepAnswers.{level-stepped-no, level-stepped, sign-placed}
+use Rattle.bitstream.specs.Bits.{bitsOf}
+use Rattle.codeword.specs.Codewords.{readCode}
+use Rattle.codeword.proofs.ReadCodeLaws.{readCode-local}
+use Rattle.reading.specs.Steps.{Gives}
+use Rattle.reading.proofs.StepAnswers.{read-gives, level-stepped-no, level-stepped}
 use borrow.Author.Needs.{needs}
 use Rattle.reading.proofs.level_step.Statement.{statement}
 use Rattle.reading.proofs.level_step.Tie as tie
@@ -14,12 +18,20 @@ enum-known-read c = search needs
 enum-known-read-2 : tie.Need-enum-known-read-2
 enum-known-read-2 c = search needs
 
+-- the level's symbol that was read
+gave : (c : tie.After-read3) → let start = c .before .before .before .before in
+    Gives (readCode (start .args .s .levels)) (bitsOf (start .args .payload .now)) (start .args .s .at) (c .read3 .given .0 .0) (c .read3 .given .0 .1 .0 .at)
+gave c =
+    let b = c .before .before in
+    let start = b .before .before in
+    let s = start .args .s in
+    let g = c .read3 .given in
+    read-gives (start .args .payload .now) (b .read .result) (readCode (s .levels)) (readCode-local (s .levels)) (s .at) (start .pre .0) (b .read .ensures) (g .0 .0) (g .0 .1 .0) (g .1)
+
 sign-step-requires : tie.Need-sign-step-requires
 sign-step-requires c κs =
-    let b = c .before .before .before in
-    let start = b .before .before in
-    let g = c .before .read3 .given in
-    (sign-placed (start .args .payload .now) (b .read .result) (start .args .s) (start .pre .0) (b .read .ensures) (g .0 .0) (g .0 .1 .0) (g .1), start .pre .1)
+    let start = c .before .before .before .before .before in
+    (record { fits = start .pre .0 .fits; within = gave (c .before) .within }, start .pre .1, start .pre .2)
 
 returns : tie.Need-returns
 returns c =
@@ -30,11 +42,10 @@ returns c =
 
 returns-2 : tie.Need-returns-2
 returns-2 c =
-    let b = c .before .before .before .before in
-    let start = b .before .before in
-    let g = c .before .before .read3 .given in
-    level-stepped (start .args .payload .now) (b .read .result) (start .args .s) (start .pre .0) (b .read .ensures) (g .0 .0) (g .0 .1 .0) (g .1)
-    (c .sign-step .result) (c .sign-step .ensures)
+    let k = c .before .before in
+    let a = k .before .before .before .before .args in
+    let g = k .read3 .given in
+    level-stepped (bitsOf (a .payload .now)) (a .s) (g .0 .0) (g .0 .1 .0 .at) (gave k) (c .sign-step .result) (c .sign-step .ensures)
 
 pub level-step-spec : {M : Type 1} → statement M
 level-step-spec =

@@ -28,7 +28,7 @@ loop-holds c = c .before .pre .1
 dc-step-requires : tie.Need-dc-step-requires Inv-loop μ-loop
 dc-step-requires c κs =
     let i = c .before .loop .inv in
-    (record { fits = c .before .before .before .pre .0; within = i .stands .within }, i .range)
+    (record { fits = c .before .before .before .pre .0; within = i .stands .within }, i .range, i .book)
 
 -- what the step answered
 stepped : (c : tie.After-dc-step Inv-loop μ-loop) (x : DcStep) → c .dc-step .result ≡ x → let at = c .before .before in

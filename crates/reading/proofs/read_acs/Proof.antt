@@ -60,7 +60,7 @@ pair-step-requires c κs =
     let at = e .before .before .before in
     let start = at .before .before .before .before in (
       record { fits = start .pre .0; within = at .loop .inv .stands .within },
-      record { room = e .before .if1 .taken; more = sym (e .end-of-data .ensures) ∙ c .if2 .left },
+      record { room = e .before .if1 .taken; more = sym (e .end-of-data .ensures) ∙ c .if2 .left; books = at .loop .inv .books },
       omega (arith, start .pre .1),
     )
 

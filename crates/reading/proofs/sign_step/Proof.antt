@@ -1,16 +1,12 @@
 -- `reading::sign_step` meets its contract.
 -- Assumes nothing.
-use Prim.Native.Nat.{_+_}
-use mathlib.Core.Path.{sym, subst₂, _∙_}
-use lib.IntN.{ℤ}
-use mir.Syntax.{w32}
-use mir.Val.{SFits}
-use mir.Facts.{toZ-ofZ}
+use mathlib.Core.Path.{sym, ap, _∙_, subst}
+use lib.Dec.{eqb}
 use Rattle.bitstream.specs.Bits.{bitsOf}
-use Rattle.codeword.specs.declared.Codebook.{Codebook}
-use Rattle.reading.specs.Steps.{signDue, LevelStepped}
-use Rattle.reading.specs.declared.LevelStep.the-variants.{To}
-use Rattle.reading.proofs.StepAnswers.{sign-stepped-no, sign-stepped-out, sign-stepped}
+use Rattle.elements.specs.declared.values.Level.{Level}
+use Rattle.reading.specs.Steps.{levelStepOf, signDue, LevelStepped}
+use Rattle.reading.specs.declared.LevelStep.{LevelStep}
+use Rattle.reading.proofs.StepAnswers.{has-bit, sign-stepped-no, sign-stepped}
 use borrow.Author.Needs.{needs}
 use Rattle.reading.proofs.sign_step.Statement.{statement}
 use Rattle.reading.proofs.sign_step.Tie as tie
@@ -27,54 +23,31 @@ enum-known-read-2 c = search needs
 level-of-requires : tie.Need-level-of-requires
 level-of-requires c κs = search needs
 
-enum-told : tie.Need-enum-told
-enum-told c = search needs
-
-enum-known-level : tie.Need-enum-known-level
-enum-known-level c = search needs
-
-level-codebook-requires : tie.Need-level-codebook-requires
-level-codebook-requires c κs = search needs
-
-add-place : tie.Need-add-place
-add-place c = search needs
+level-to-requires : tie.Need-level-to-requires
+level-to-requires c κs = search needs
 
 returns : tie.Need-returns
 returns c =
     let b = c .before .before .before in
     let start = b .before .before in
+    let a = start .args in
     let g = c .before .read .given in
-    sign-stepped-no (start .args .payload .now) (b .read-bit .result) (start .args .s) (start .args .symbol) (start .args .at) (start .pre .0)
-    (b .read-bit .ensures) (g .0 .0) (g .1)
+    sign-stepped-no (a .payload .now) (b .read-bit .result) (a .s) (a .symbol) (a .at) (start .pre .0) (b .read-bit .ensures) (g .0 .0) (g .1)
 
 returns-2 : tie.Need-returns-2
 returns-2 c =
-    let b = c .before .before .before .before .before .before in
+    let l = c .before in
+    let k = l .before .before in
+    let b = k .before .before in
     let start = b .before .before in
-    let g = c .before .before .before .before .read2 .given in
-    sign-stepped-out (start .args .payload .now) (b .read-bit .result) (start .args .s) (start .args .symbol) (start .args .at) (start .pre .0)
-    (b .read-bit .ensures) (g .0 .0) (g .0 .1 .0) (g .1) (sym (c .before .before .level-of .ensures) ∙ c .enum-told .given .1)
-
-fits : (c : tie.After-known-told3) → SFits w32 (c .before .level .given .0 .0)
-fits c = search needs
-
-returns-3 : tie.Need-returns-3
-returns-3 c =
-    let l = c .before .before .before in
-    let b = l .before .before .before .before .before .before in
-    let start = b .before .before in
-    let p = start .args .payload .now in
-    let s = start .args .s in
-    let symbol = start .args .symbol in
-    let at = start .args .at in
-    let g = l .before .before .before .before .read2 .given in
-    let x = l .level .given .0 .0 in
-    let said = sym (l .before .before .level-of .ensures) ∙ l .level .given .1 in
-    let done = sign-stepped p (b .read-bit .result) s symbol at (start .pre .0) (b .read-bit .ensures) (g .0 .0) (g .0 .1 .0) (g .1) x said in
-    subst₂
-    (λ (v : ℤ) (k : Codebook).
-    LevelStepped (bitsOf p) (s .place) (signDue s symbol at) (To v (record { at = g .0 .1 .0 .at; place = s .place + 1; runs = s .runs; levels = k })))
-    (sym (toZ-ofZ (fits (c .before .before)))) (sym (c .before .level-codebook .ensures)) done
+    let a = start .args in
+    let p = a .payload .now in
+    let g = k .read2 .given in
+    let end = g .0 .1 .0 .at in
+    let is = c .level-to .ensures ∙ ap (λ (x : Level). levelStepOf x (a .s) (a .symbol) end) (l .level-of .ensures) in
+    subst (λ (x : LevelStep). LevelStepped (bitsOf p) (a .s .place) (signDue (a .s) (a .symbol) (a .at)) x) (sym is)
+    (sign-stepped (bitsOf p) (a .s) (a .symbol) (a .at) (eqb (g .0 .0) 1) end
+    (has-bit p (b .read-bit .result) (a .at) (start .pre .0) (b .read-bit .ensures) (g .0 .0) (g .0 .1 .0) (g .1)) (start .pre .2))
 
 pub sign-step-spec : {M : Type 1} → statement M
 sign-step-spec =
@@ -84,10 +57,6 @@ sign-step-spec =
     enum-known-read
     enum-known-read-2
     level-of-requires
-    enum-told
-    enum-known-level
-    level-codebook-requires
-    add-place
+    level-to-requires
     returns
-    returns-2
-    returns-3)
+    returns-2)

@@ -1,11 +1,14 @@
 -- `bitstream::fields::field_at` meets its contract.
 -- Assumes nothing.
 use mathlib.Core.Path.{_≡_, sym, ap, _∙_, subst}
-use Prim.Native.Nat.{ℕ, _*_, _/_, _%_, _-_, _^_, _<_}
+use Prim.Native.Nat.{ℕ, _+_, _-_, _/_, _^_, _<_}
 use native.Mathlib.Omega.{arith}
 use lib.ListN.{take, drop}
+use lib.Pow.{shr-shr}
 use Rattle.bitstream.specs.Bits.{bitsOf, number}
-use Rattle.bitstream.proofs.PlaceLaws.{number-take-32, field-loaded}
+use Rattle.bitstream.specs.Windows.{Shows}
+use Rattle.bitstream.proofs.PlaceLaws.{number-take-32, word-shows}
+use Rattle.bitstream.proofs.WindowLaws.{shows-take}
 use borrow.Author.Needs.{needs}
 use Rattle.bitstream.proofs.fields.field_at.Statement.{statement}
 use Rattle.bitstream.proofs.fields.field_at.Tie as tie
@@ -13,11 +16,8 @@ use Rattle.bitstream.proofs.fields.field_at.Tie as tie
 add-if1 : tie.Need-add-if1
 add-if1 c = search needs
 
-load8-requires : tie.Need-load8-requires
-load8-requires c κs = search needs
-
-shl-result : tie.Need-shl-result
-shl-result c = search needs
+window-requires : tie.Need-window-requires
+window-requires c κs = search needs
 
 sub-result : tie.Need-sub-result
 sub-result c = search needs
@@ -28,20 +28,23 @@ cast-result c = search needs
 shr-result : tie.Need-shr-result
 shr-result c = search needs
 
-loaded : (c : tie.After-load8)
-    → (c .load8 .result * 2 ^ (c .before .before .before .args .p % 8)) % 2 ^ 64 / 2 / 2 ^ (63 - c .before .before .before .args .n)
-    ≡ number (take (c .before .before .before .args .n) (drop (c .before .before .before .args .p) (bitsOf (c .before .before .before .args .payload .now))))
-loaded c =
+-- what is shown of the payload
+shown : (c : tie.After-window) → let a = c .before .before .before .args in
+    c .window .result / 2 / 2 ^ (63 - a .n) ≡ number (take (a .n) (drop (a .p) (bitsOf (a .payload .now))))
+shown c =
     let a = c .before .before .before .args in
-    ap (λ (w : ℕ). (w * 2 ^ (a .p % 8)) % 2 ^ 64 / 2 / 2 ^ (63 - a .n)) (c .load8 .ensures) ∙ field-loaded (a .payload .now) (a .p) (a .n) (omega arith) (omega arith)
+    let w = c .window .result in
+    let e : 1 + (63 - a .n) ≡ 64 - a .n = omega arith in
+    let s = subst (λ (x : ℕ). Shows 57 x (drop (a .p) (bitsOf (a .payload .now)))) (sym (c .window .ensures)) (word-shows (a .payload .now) (a .p) (omega arith)) in
+    shr-shr w 1 (63 - a .n) ∙ ap (λ (k : ℕ). w / 2 ^ k) e ∙ shows-take 57 w (drop (a .p) (bitsOf (a .payload .now))) s (omega arith) (a .n) (omega arith)
 
 cast-result-2 : tie.Need-cast-result-2
 cast-result-2 c =
     let a = c .before .before .before .args in
-    record { fits = subst (λ (x : ℕ). x < 2 ^ 32) (sym (loaded c)) (number-take-32 (a .n) (drop (a .p) (bitsOf (a .payload .now))) (omega arith)) }
+    record { fits = subst (λ (x : ℕ). x < 2 ^ 32) (sym (shown c)) (number-take-32 (a .n) (drop (a .p) (bitsOf (a .payload .now))) (omega arith)) }
 
 returns : tie.Need-returns
-returns c = loaded c
+returns c = shown c
 
 field-plain-requires : tie.Need-field-plain-requires
 field-plain-requires c κs = search needs
@@ -59,8 +62,7 @@ field-at-spec =
     tie.close
     (tie.spec
     add-if1
-    load8-requires
-    shl-result
+    window-requires
     sub-result
     cast-result
     shr-result

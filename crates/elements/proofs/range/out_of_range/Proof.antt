@@ -1,7 +1,7 @@
--- `elements::range::out_of_range` meets its contract. The invariant: the coefficients from i on decide it.
+-- `elements::range::out_of_range` meets its contract. The invariant: what was found up to i, and the coefficients from i on, decide it.
 -- Assumes nothing.
-use mathlib.Core.Path.{_≡_, refl, sym, ap, _∙_}
-use mathlib.Core.Bool.{not}
+use mathlib.Core.Path.{_≡_, refl, ap, _∙_}
+use mathlib.Core.Bool.{not, _||_}
 use Prim.Native.Nat.{_-_}
 use native.Mathlib.Omega.{arith}
 use borrow.Author.Needs.{needs, sfits-of}
@@ -11,15 +11,15 @@ use mir.Syntax.{w32}
 use mir.Val.{toZ, ofZ}
 use mir.Facts.{toZ-ofZ}
 use Rattle.elements.specs.Limits.{inRange}
-use Rattle.elements.proofs.RangeLaws.{inRange-out, inRange-next, inRange-end}
+use Rattle.elements.proofs.RangeLaws.{range-more, range-all}
 use Rattle.elements.proofs.range.out_of_range.Statement.{statement}
 use Rattle.elements.proofs.range.out_of_range.Tie as tie
 
 abbrev Inv-loop : tie.InvT-loop
-Inv-loop coeffs i₀ i = inRange coeffs ≡ inRange (drop i coeffs)
+Inv-loop coeffs wrong₀ i₀ wrong i = not (inRange coeffs) ≡ (wrong || not (inRange (drop i coeffs)))
 
 abbrev μ-loop : tie.MeasureT-loop
-μ-loop coeffs i₀ i = length coeffs - i
+μ-loop coeffs wrong₀ i₀ wrong i = length coeffs - i
 
 loop-holds : tie.Need-loop-holds Inv-loop μ-loop
 loop-holds c = refl
@@ -33,20 +33,13 @@ shared-slice-copy-out-magnitude c = search needs
 magnitude-requires : tie.Need-magnitude-requires Inv-loop μ-loop
 magnitude-requires c κs = search needs
 
-abbrev coefficient : tie.At-loop Inv-loop μ-loop → ℤ
-coefficient c = getD (c .before .args .coeffs .now) (c .loop .i) (pos 0)
-
-m-is : (c : tie.After-magnitude Inv-loop μ-loop) → c .magnitude .result ≡ natAbs (coefficient (c .before .before .before))
+m-is : (c : tie.After-magnitude Inv-loop μ-loop) → let at = c .before .before .before in
+    c .magnitude .result ≡ natAbs (getD (at .before .args .coeffs .now) (at .loop .i) (pos 0))
 m-is c =
-    let z = coefficient (c .before .before .before) in
+    let at = c .before .before .before in
+    let z : ℤ = getD (at .before .args .coeffs .now) (at .loop .i) (pos 0) in
     let back : toZ w32 (ofZ w32 z) ≡ z = toZ-ofZ (sfits-of (c .before .magnitude-arg .given)) in
     c .magnitude .ensures ∙ ap natAbs back
-
-returns : tie.Need-returns Inv-loop μ-loop
-returns c =
-    let s = c .before .before .before .before .before .args .coeffs .now in
-    let l = c .before .before .before .before .loop in
-    sym (ap not (l .inv ∙ inRange-out s (l .i) (omega arith) (omega (arith, m-is (c .before), c .if1 .taken))))
 
 add-i : tie.Need-add-i Inv-loop μ-loop
 add-i c = search needs
@@ -56,14 +49,13 @@ loop-less c = search needs
 
 loop-again : tie.Need-loop-again Inv-loop μ-loop
 loop-again c =
-    let s = c .before .before .before .before .before .args .coeffs .now in
-    let l = c .before .before .before .before .loop in
-    l .inv ∙ inRange-next s (l .i) (omega arith) (omega (arith, m-is (c .before), c .if1 .left))
+    let at = c .before .before .before in
+    at .loop .inv ∙ range-more (at .before .args .coeffs .now) (at .loop .i) (at .loop .wrong) (c .magnitude .result) (m-is c) (omega arith)
 
-returns-2 : tie.Need-returns-2 Inv-loop μ-loop
-returns-2 c =
-    let l = c .before .loop in
-    sym (ap not (l .inv ∙ inRange-end (c .before .before .args .coeffs .now) (l .i) (c .loop-test .left)))
+returns : tie.Need-returns Inv-loop μ-loop
+returns c =
+    let at = c .before in
+    range-all (at .before .args .coeffs .now) (at .loop .i) (at .loop .wrong) (at .loop .inv) (c .loop-test .left)
 
 pub out-of-range-spec : {M : Type 1} → statement M
 out-of-range-spec =
@@ -75,8 +67,7 @@ out-of-range-spec =
     mul-magnitude
     shared-slice-copy-out-magnitude
     magnitude-requires
-    returns
     add-i
     loop-less
     loop-again
-    returns-2)
+    returns)

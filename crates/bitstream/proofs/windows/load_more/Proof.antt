@@ -1,4 +1,4 @@
--- `bitstream::fields::load_more` meets its contract.
+-- `bitstream::windows::load_more` meets its contract.
 -- Assumes nothing.
 use borrow.Author.Needs.{needs}
 use mathlib.Core.Path.{sym, ap₂, _∙_, subst}
@@ -6,8 +6,8 @@ use Prim.Native.Nat.{ℕ, _+_, _*_, _^_, _<_}
 use native.Mathlib.Omega.{arith}
 use lib.ListN.{getD}
 use Rattle.bitstream.proofs.PlaceLaws.{load-more, load-lt}
-use Rattle.bitstream.proofs.fields.load_more.Statement.{statement}
-use Rattle.bitstream.proofs.fields.load_more.Tie as tie
+use Rattle.bitstream.proofs.windows.load_more.Statement.{statement}
+use Rattle.bitstream.proofs.windows.load_more.Tie as tie
 
 -- the bytes before fill at most seven
 word-lt : (c : tie.Start) → c .args .w < 2 ^ 56

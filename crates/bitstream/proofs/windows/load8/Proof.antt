@@ -1,11 +1,11 @@
--- `bitstream::fields::load8` meets its contract: each call asks for what the one before gave.
+-- `bitstream::windows::load8` meets its contract: each call asks for what the one before gave.
 -- Assumes nothing.
 use borrow.Author.Needs.{needs}
 use mathlib.Core.Path.{refl}
 use native.Mathlib.Omega.{arith}
 use Rattle.bitstream.specs.Bits.{number, bitsOf}
-use Rattle.bitstream.proofs.fields.load8.Statement.{statement}
-use Rattle.bitstream.proofs.fields.load8.Tie as tie
+use Rattle.bitstream.proofs.windows.load8.Statement.{statement}
+use Rattle.bitstream.proofs.windows.load8.Tie as tie
 
 load-more-requires : tie.Need-load-more-requires
 unfolding number bitsOf

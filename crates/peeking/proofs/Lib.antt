@@ -1,0 +1,3 @@
+pub mod ComboLaws
+pub mod PeekLaws
+pub mod PeekExamples

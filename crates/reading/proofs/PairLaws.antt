@@ -1,0 +1,69 @@
+-- A run, a level and its sign out of one word.
+-- Assumes nothing.
+use Prim.Native.Nat.{ℕ, _+_, _-_, _*_, _/_, _%_, _^_, _≤_, _<_}
+use native.Mathlib.Nat.{mod-eq-of-lt}
+use native.Mathlib.Omega.{arith}
+use mathlib.Core.Path.{_≡_, sym, ap, _∙_, subst}
+use mathlib.Core.Bool.{Bool}
+use mathlib.Core.List.{List, _∷_}
+use lib.Dec.{eqb}
+use lib.ListN.{drop, length-drop}
+use lib.Seq.{drop-drop}
+use Rattle.bitstream.specs.Reading.{got}
+use Rattle.bitstream.specs.Windows.{Shows}
+use Rattle.bitstream.proofs.WindowLaws.{shows-on, shows-bit}
+use Rattle.codeword.specs.Codewords.{readCode}
+use Rattle.codeword.specs.declared.Codebook.{Codebook}
+use Rattle.peeking.specs.Peeks.{peeked, Foretells}
+use Rattle.peeking.specs.declared.Peeked.{Peeked}
+use Rattle.peeking.proofs.PeekLaws.{peeked-foretells}
+use Rattle.reading.specs.Steps.{Booked, Gives, HasBit, PairShown}
+use Rattle.reading.specs.declared.Acs.{Acs}
+
+-- w shows n bits from p on
+module _ (B : List Bool) (p n w : ℕ) (s : Shows n w (drop p B)) (narrow : n ≤ 57) where
+  shows-next : (a : ℕ) → a ≤ n → Shows (n - a) ((w * 2 ^ a) % 2 ^ 64) (drop (p + a) B)
+  shows-next a h = subst (λ (l : List Bool). Shows (n - a) ((w * 2 ^ a) % 2 ^ 64) l) (drop-drop a p B) (shows-on n w (drop p B) s (omega arith) a h)
+
+  gives-code : (cb : Codebook) (len v : ℕ) → Foretells cb w len v → len ≤ n → Gives (readCode cb) B p v (p + len)
+  gives-code cb len v f h =
+      record {
+        is = f .is n (drop p B) s narrow h ∙ ap (got v) (drop-drop len p B);
+        within = omega (arith, f .some, s .long, length-drop p B);
+      }
+
+  has-sign : 0 < n → HasBit B p (eqb (w / 2 ^ 63) 1) (p + 1)
+  has-sign h =
+      record {
+        is = shows-bit n w (drop p B) s (omega arith) h ∙ ap (λ (l : List Bool). eqb (w / 2 ^ 63) 1 ∷ l) (drop-drop 1 p B);
+        within = omega (arith, s .long, length-drop p B);
+      }
+
+-- what was seen in a word that shows 57 bits from s on
+module _ (B : List Bool) (s : Acs) (books : Booked s) (w : ℕ) (run level : Peeked) where
+  -- what is shown behind the run
+  abbrev behind : ℕ
+  behind = (w * 2 ^ (run .len % 64)) % 2 ^ 64
+
+  module _ (er : run ≡ peeked (s .runs) w) (el : level ≡ peeked (s .levels) behind) where
+    first-is : Foretells (s .runs) w (run .len) (run .value)
+    first-is = subst (λ (x : Peeked). Foretells (s .runs) w (x .len) (x .value)) (sym er) (peeked-foretells (s .runs) (books .runs) w)
+
+    second-is : Foretells (s .levels) behind (level .len) (level .value)
+    second-is = subst (λ (x : Peeked). Foretells (s .levels) behind (x .len) (x .value)) (sym el) (peeked-foretells (s .levels) (books .levels) behind)
+
+    pub pair-short : run .len + level .len ≤ 512
+    pair-short = omega (arith, first-is .short, second-is .short)
+
+    pub pair-shown : Shows 57 w (drop (s .at) B) → run .len + level .len + 1 ≤ 57 → PairShown B s run level (eqb ((behind * 2 ^ level .len) % 2 ^ 64 / 2 ^ 63) 1)
+    pair-shown shows used =
+        let whole : run .len % 64 ≡ run .len = mod-eq-of-lt (omega arith) in
+        let mid : ℕ = s .at + run .len in
+        let later = subst (λ (i : ℕ). Shows (57 - run .len) ((w * 2 ^ i) % 2 ^ 64) (drop mid B)) (sym whole)
+        (shows-next B (s .at) 57 w shows (omega arith) (run .len) (omega arith)) in
+        record {
+          first = gives-code B (s .at) 57 w shows (omega arith) (s .runs) (run .len) (run .value) first-is (omega arith);
+          second = gives-code B mid (57 - run .len) behind later (omega arith) (s .levels) (level .len) (level .value) second-is (omega arith);
+          sign = has-sign B (mid + level .len) (57 - run .len - level .len) ((behind * 2 ^ level .len) % 2 ^ 64)
+              (shows-next B mid (57 - run .len) behind later (omega arith) (level .len) (omega arith)) (omega arith) (omega arith);
+        }

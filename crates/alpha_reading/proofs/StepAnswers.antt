@@ -1,6 +1,6 @@
 -- One step of the decoder, by what was read of a payload at it, as the code answers. A function's proof cites these laws alone.
 -- Assumes nothing.
-use Prim.Native.Nat.{ℕ, _+_, _-_, _*_, _≤_, _<_}
+use Prim.Native.Nat.{ℕ, _+_, _-_, _*_, _/_, _%_, _^_, _≤_, _<_}
 use native.Mathlib.Omega.{arith}
 use mathlib.Core.Path.{_≡_, refl, sym, ap, _∙_}
 use mathlib.Core.Bool.{Bool, true, false, cond}
@@ -10,10 +10,10 @@ use lib.IntN.{pos}
 use lib.ListN.{length, replicate, drop, length-drop}
 use borrow.Author.Tests.{lt-ltb, le-ltb, leb-true, eq-eqb, ne-eqb}
 use Rattle.common.proofs.Choices.{cond-yes, cond-no}
-use Rattle.bitstream.specs.Bits.{bitsOf, ended}
-use Rattle.bitstream.specs.Reading.{Parsed, readBits}
+use Rattle.bitstream.specs.Bits.{odd, bitsOf, ended}
+use Rattle.bitstream.specs.Reading.{Parsed, got, readField, readBits}
 use Rattle.bitstream.specs.Machine.{moved, refuses}
-use Rattle.bitstream.specs.Told.{Placed, told, outcomeAt}
+use Rattle.bitstream.specs.Told.{Placed, numberOf, told, outcomeAt}
 use Rattle.bitstream.specs.declared.Cursor.{Cursor}
 use Rattle.bitstream.specs.declared.Refusal.{Refusal}
 use Rattle.bitstream.specs.declared.Refusal.the-variants.{AlphaOverrun, LongRun, Tail, Padding}
@@ -21,6 +21,7 @@ use Rattle.bitstream.specs.declared.Read.{Read}
 use Rattle.bitstream.specs.declared.Read.the-variants.{Value, No as Unread}
 use Rattle.bitstream.specs.declared.Reached.the-variants.{At, No as Stopped}
 use Rattle.bitstream.proofs.BitsLaws.{length-bits}
+use Rattle.bitstream.proofs.ReadLaws.{readField-bit, readField-bit-no}
 use Rattle.bitstream.proofs.AnswerLaws.{field-no, field-got, field-lt, field-placed, bit-no, bit-got, bit-placed}
 use Rattle.elements.specs.Decoding.{signed}
 use Rattle.samples.specs.declared.AlphaChannelType.{AlphaChannelType}
@@ -29,7 +30,7 @@ use Rattle.samples.specs.Values.{sampleOf, previousOf}
 use Rattle.samples.specs.Decoding.{difference, run, onRead, differenceTo, smallTo, differenceStep, runTo, longTo, shortTo, runStep}
 use Rattle.samples.proofs.KindLaws.{pow-width, pow-small, sizes}
 use Rattle.samples.proofs.StepLaws.{longTo-low, longTo-run, shortTo-run}
-use Rattle.alpha_reading.specs.Steps.{signDue, smallDue, escapedDue, differenceDue, SampleStepped, longDue, shortDue, runDue, runOf, RunStepped, endOf}
+use Rattle.alpha_reading.specs.Steps.{smallDue, escapedDue, differenceDue, SampleStepped, longDue, shortDue, runDue, runOf, RunStepped, endOf}
 use Rattle.alpha_reading.specs.declared.SampleStep.{SampleStep}
 use Rattle.alpha_reading.specs.declared.SampleStep.the-variants.{To, No}
 use Rattle.alpha_reading.specs.declared.RunStep.{RunStep}
@@ -41,42 +42,35 @@ module _ (p : List ℕ) (r : Read) (k : AlphaChannelType) (prev at : ℕ) (pl : 
   abbrev B : List Bool
   B = bitsOf p
 
-  module _ (m : ℕ) (e : told r ≡ outcomeAt (readBits 1) p at) where
-    pub sign-stepped-no : (why : Refusal) → r ≡ Unread why → SampleStepped B k (signDue k prev m at) (No why)
-    sign-stepped-no why q = record { is = λ left. bit-no p at r pl e why q (λ bs. smallTo k left (previousOf prev) m bs) refl; keeps = tt }
-
-    pub sign-stepped : (v : ℕ) (c : Cursor) → r ≡ Value v c → (x : ℕ) → (x ≡ sampleOf k (previousOf prev) (signed (eqb v 1) m)) × (x ≤ maskOf k)
-        → SampleStepped B k (signDue k prev m at) (To x (c .at))
-    sign-stepped v c q x s =
-        record {
-          is = λ left.
-              ap (λ (bs : List Bool). smallTo k left (previousOf prev) m bs) (bit-got p at r pl e v c q)
-              ∙ ap (λ (y : ℕ). moved (run left y) [] (drop (c .at) B)) (sym (s .0));
-          keeps = record { range = s .1; within = bit-placed p at r pl e v c q .within };
-        }
-
-  module _ (e : told r ≡ outcomeAt (readBits (smallWidthOf k)) p at) where
-    narrow-small : smallWidthOf k ≤ 32
+  -- the small field and its sign
+  module _ (e : told r ≡ outcomeAt (readBits (smallWidthOf k + 1)) p at) where
+    narrow-small : smallWidthOf k + 1 ≤ 32
     narrow-small = omega (arith, sizes k .small)
 
     pub small-stepped-no : (why : Refusal) → r ≡ Unread why → SampleStepped B k (smallDue k prev at) (No why)
     small-stepped-no why q =
         record {
-          is = λ left. ap (λ (x : Parsed). onRead x (λ m u. smallTo k left (previousOf prev) m u)) (field-no p at (smallWidthOf k) r pl narrow-small e why q);
+          is = λ left.
+              readField-bit-no (smallWidthOf k) (drop at B) (numberOf why) (field-no p at (smallWidthOf k + 1) r pl narrow-small e why q)
+              (λ x. onRead x (λ m u. smallTo k left (previousOf prev) m u)) refuses refl (λ m. refl);
           keeps = tt;
         }
 
-    module _ (m : ℕ) (c : Cursor) (q : r ≡ Value m c) where
-      pub sign-due : Placed p (c .at) × (m < limitOf k)
-      sign-due = (field-placed p at (smallWidthOf k) r pl narrow-small e m c q, omega (arith, field-lt p at (smallWidthOf k) r pl narrow-small e m c q, pow-small k))
+    module _ (v : ℕ) (c : Cursor) (q : r ≡ Value v c) where
+      small-read : (readField (smallWidthOf k) (drop at B) ≡ got (v / 2) (odd v ∷ drop (c .at) B)) × (v / 2 < 2 ^ smallWidthOf k)
+      small-read = readField-bit (smallWidthOf k) (drop at B) v (drop (c .at) B) (field-got p at (smallWidthOf k + 1) r pl narrow-small e v c q)
 
-      -- the sign is read next
-      pub small-stepped : (x : SampleStep) → SampleStepped B k (signDue k prev m (c .at)) x → SampleStepped B k (smallDue k prev at) x
+      pub small-lt : v / 2 < limitOf k
+      small-lt = omega (arith, small-read .1, pow-small k)
+
+      pub small-stepped : (x : ℕ) → (x ≡ sampleOf k (previousOf prev) (signed (eqb (v % 2) 1) (v / 2))) × (x ≤ maskOf k)
+          → SampleStepped B k (smallDue k prev at) (To x (c .at))
       small-stepped x s =
           record {
             is = λ left.
-                ap (λ (x : Parsed). onRead x (λ m u. smallTo k left (previousOf prev) m u)) (field-got p at (smallWidthOf k) r pl narrow-small e m c q) ∙ s .is left;
-            keeps = s .keeps;
+                ap (λ (y : Parsed). onRead y (λ m u. smallTo k left (previousOf prev) m u)) (small-read .0)
+                ∙ ap (λ (y : ℕ). moved (run left y) [] (drop (c .at) B)) (sym (s .0));
+            keeps = record { range = s .1; within = field-placed p at (smallWidthOf k + 1) r pl narrow-small e v c q .within };
           }
 
   module _ (e : told r ≡ outcomeAt (readBits (widthOf k)) p at) where

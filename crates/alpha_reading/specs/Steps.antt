@@ -29,10 +29,6 @@ use Rattle.alpha_reading.specs.declared.PairStep.the-variants.{To as Pai
 
 -- ---- a difference and its parts, which begin at bit `at`, with `left` samples left; prev is one more than the previous value
 
--- the sign of a small one of magnitude m + 1
-abbrev pub signDue : AlphaChannelType → ℕ → ℕ → ℕ → List Bool → ℕ → StepA
-signDue k prev m at B left = smallTo k left (previousOf prev) m (drop at B)
-
 abbrev pub smallDue : AlphaChannelType → ℕ → ℕ → List Bool → ℕ → StepA
 smallDue k prev at B left = onRead (readField (smallWidthOf k) (drop at B)) (λ m u. smallTo k left (previousOf prev) m u)
 

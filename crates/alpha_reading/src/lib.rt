@@ -5,11 +5,11 @@ ghost use Prim.Native.Nat.{_+_, _≤_, _<_};
 ghost use lib.ListN.{length, replicate, drop};
 ghost use Rattle.bitstream.specs.Bits.{bitsOf};
 ghost use Rattle.bitstream.specs.Told.{payloadLimit, Placed};
-ghost use Rattle.samples.specs.Kinds.{limitOf, maskOf};
+ghost use Rattle.samples.specs.Kinds.{maskOf};
 ghost use Rattle.samples.specs.Limits.{sampleLimit};
 ghost use Rattle.samples.specs.Decoding.{decode};
 ghost use Rattle.samples.specs.Answers.{settled};
-ghost use Rattle.alpha_reading.specs.Steps.{signDue, smallDue, escapedDue, differenceDue, SampleStepped};
+ghost use Rattle.alpha_reading.specs.Steps.{smallDue, escapedDue, differenceDue, SampleStepped};
 ghost use Rattle.alpha_reading.specs.Steps.{runOf, longDue, shortDue, runDue, RunStepped, PairStepped, endOf, reachedSays};
 use bitstream::Cursor;
 use bitstream::Reached;
@@ -24,29 +24,18 @@ enum SampleStep {
     No(Refusal),
 }
 
-// The sign of the small difference of magnitude m + 1, and its sample.
-fn sign_step(payload: &[u8], kind: AlphaChannelType, prev: u32, m: u32, at: usize) -> SampleStep
-    requires { ⌜ Placed (now payload) at × (prev ≤ maskOf kind + 1) × (m < limitOf kind) ⌝ }
-    ensures { λ r. ⌜ SampleStepped (bitsOf (now (payload .entry))) kind (signDue kind prev m at) r ⌝ }
-{
-    let read = Cursor { at }.read_bit(payload);
-    match read {
-        Read::No(why) => SampleStep::No(why),
-        Read::Value { value, next } => {
-            let v = values::small_sample(kind, prev, m, value == 1);
-            SampleStep::To(v, next.at)
-        }
-    }
-}
-
+// A small field and its sign, in one field: where one of them is cut off, the answer is the same.
 fn small_step(payload: &[u8], kind: AlphaChannelType, prev: u32, at: usize) -> SampleStep
     requires { ⌜ Placed (now payload) at × (prev ≤ maskOf kind + 1) ⌝ }
     ensures { λ r. ⌜ SampleStepped (bitsOf (now (payload .entry))) kind (smallDue kind prev at) r ⌝ }
 {
-    let read = Cursor { at }.read_bits(payload, kind.small_width());
+    let read = Cursor { at }.read_bits(payload, kind.small_width() + 1);
     match read {
         Read::No(why) => SampleStep::No(why),
-        Read::Value { value, next } => sign_step(payload, kind, prev, value, next.at),
+        Read::Value { value, next } => {
+            let v = values::small_sample(kind, prev, value / 2, value % 2 == 1);
+            SampleStep::To(v, next.at)
+        }
     }
 }
 

@@ -14,7 +14,7 @@ use lib.ListN.{length, getD, take, drop, length-drop, length-take, take-append-d
 use lib.Seq.{drop-cons, drop-drop, drop-append-le, take-append-le, take-suc, getD-drop, length-take-le}
 use borrow.Author.Tests.{ne-eqb}
 use Rattle.common.proofs.Numbers.{shl-mod}
-use Rattle.bitstream.specs.Windows.{wordAt, Shows}
+use Rattle.bitstream.specs.Windows.{wordAt, shown, Shows}
 use Rattle.bitstream.specs.Bits.{odd, val, field, number, bitsOf, zeros, ended}
 use Rattle.bitstream.proofs.FieldLaws.{length-field, drop-field, getD-field, number-field, number-lt, number-append, number-take, number-drop, number-take-lt, number-take-more}
 use Rattle.bitstream.proofs.BitsLaws.{length-bits, bits-append, bits-drop}
@@ -96,7 +96,7 @@ number-part w k n len fits =
     ∙ number-take (drop k w) n (64 - k - n) l
 
 -- what is unread at p, where eight bytes are left
-pub word-shows : (s : List ℕ) (p : ℕ) → p / 8 + 8 ≤ length s → Shows 57 (wordAt s p) (drop p (bitsOf s))
+pub word-shows : (s : List ℕ) (p : ℕ) → p / 8 + 8 ≤ length s → Shows shown (wordAt s p) (drop p (bitsOf s))
 unfolding wordAt
 word-shows s p room =
     let i : ℕ = p / 8 in
@@ -112,8 +112,8 @@ word-shows s p room =
     record {
       fits = mod-lt (number w * 2 ^ k) (pow-pos 64);
       long = omega (arith, length-bits s, length-drop p (bitsOf s));
-      is = number-part w k 57 lw (omega arith)
-          ∙ sym (ap (λ (l : List Bool). number (take 57 l)) rest ∙ ap number (take-append-le 57 (drop k w) t (omega (arith, length-drop k w))));
+      is = number-part w k shown lw (omega arith)
+          ∙ sym (ap (λ (l : List Bool). number (take shown l)) rest ∙ ap number (take-append-le shown (drop k w) t (omega (arith, length-drop k w))));
     }
 
 -- ---- the end of data

@@ -3,18 +3,19 @@
 use mathlib.Core.Path.{_≡_, refl, sym, ap, ap₂, _∙_, subst}
 use mathlib.Core.Bool.{Bool, true, false}
 use mathlib.Core.List.{List, [], _∷_, _++_, append-assoc}
-use Prim.Native.Nat.{ℕ, zero, suc, _+_, _-_, _^_, _≤_, _<_}
+use Prim.Native.Nat.{ℕ, zero, suc, _+_, _-_, _/_, _^_, _≤_, _<_}
 use native.Mathlib.Nat.{mod-eq-of-lt}
 use native.Mathlib.Numerals.{add-one}
 use native.Mathlib.Omega.{arith}
 use native.Mathlib.Decide.{decLe}
 use lib.ListN.{length, getD, take, drop, length-append, length-drop, take-append-drop, drop-of-length-le}
+use lib.Pow.{shr-lt}
 use lib.Seq.{take-at, drop-at, length-take-le, drop-cons, drop-append-seam, drop-drop}
 use borrow.Author.Tests.{le-leb, lt-leb}
-use Rattle.bitstream.specs.Bits.{field, number, bitsOf, zeros}
+use Rattle.bitstream.specs.Bits.{odd, field, number, bitsOf, zeros}
 use Rattle.bitstream.specs.Reading.{Parsed, got, refused, Reader, after, _then_, readField, readBits, oneMore, zeroPrefix}
 use Rattle.bitstream.specs.Told.{payloadLimit, Outcome, gives, refusal, outcome, within, outcomeAt}
-use Rattle.bitstream.proofs.FieldLaws.{length-field, number-field, number-lt, field-number}
+use Rattle.bitstream.proofs.FieldLaws.{length-field, field-split, number-field, number-lt, field-number}
 
 -- ---- a field
 
@@ -58,6 +59,37 @@ field-readField n bs v rest e = go (decLe n (length bs))
           sym (ap₂ (λ (a b : List Bool). a ++ b) back (sym er) ∙ take-append-drop n bs),
           subst (λ (x : ℕ). x < 2 ^ n) ev (subst (λ (i : ℕ). number (take n bs) < 2 ^ i) l (number-lt (take n bs))),
         )
+
+-- a field of n bits and one bit more, read at once
+module _ (n : ℕ) (bs : List Bool) where
+  pub readField-bit : (v : ℕ) (t : List Bool) → readField (n + 1) bs ≡ got v t → (readField n bs ≡ got (v / 2) (odd v ∷ t)) × (v / 2 < 2 ^ n)
+  unfolding field
+  readField-bit v t e =
+      let f = field-readField (n + 1) bs v t e in
+      let half : v / 2 < 2 ^ n = shr-lt n 1 (f .1) in
+      let last : v / 2 ^ 0 ≡ v = omega arith in
+      let parts : bs ≡ field n (v / 2) ++ (odd v ∷ t) =
+      f .0 ∙ ap (λ (l : List Bool). l ++ t) (field-split n 1 v) ∙ append-assoc (field n (v / 2)) (field 1 v) t
+      ∙ ap (λ (x : ℕ). field n (v / 2) ++ (odd x ∷ t)) last in
+      (ap (readField n) parts ∙ readField-field n (v / 2) (odd v ∷ t) half, half)
+
+  -- cut off in the field or before the bit, it is refused alike
+  pub readField-bit-no : {A : Type 0} (k : ℕ) → readField (n + 1) bs ≡ refused k → (g : Parsed → A) (y : ℕ → A)
+      → g (refused 5) ≡ y 5 → ((m : ℕ) → g (got m []) ≡ y 5) → g (readField n bs) ≡ y k
+  readField-bit-no k e g y field-cut bit-cut = go (decLe (n + 1) (length bs))
+    where
+      inside : length bs < n + 1 → Dec (n ≤ length bs) → g (readField n bs) ≡ y 5
+      inside h (no l) = ap g (readField-short n bs (omega arith)) ∙ field-cut
+      inside h (yes l) = ap g (readField-all n bs l ∙ ap (got (number (take n bs))) (drop-of-length-le bs {i = n} (omega arith))) ∙ bit-cut (number (take n bs))
+
+      go : Dec (n + 1 ≤ length bs) → g (readField n bs) ≡ y k
+      go (yes h) =
+          let all : readField (n + 1) bs ≡ got (number (take (n + 1) bs)) (drop (n + 1) bs) = readField-all (n + 1) bs h in
+          absurd (let z : _≡_ {A = ℕ} 0 1 = cc in omega arith)
+      go (no h) =
+          let s : readField (n + 1) bs ≡ refused 5 = readField-short (n + 1) bs (omega arith) in
+          let five : 5 ≡ k = cc in
+          inside (omega arith) (decLe n (length bs)) ∙ ap y five
 
 -- ---- a prefix of zeros
 

@@ -10,6 +10,10 @@ use Rattle.bitstream.specs.Bits.{number, bitsOf}
 unfoldable pub wordAt : List ℕ → ℕ → ℕ
 wordAt s p = (number (bitsOf (take 8 (drop (p / 8) s))) * 2 ^ (p % 8)) % 2 ^ 64
 
+-- so many bits such a word shows at any p: up to 7 of its 64 stand before p
+abbrev pub shown : ℕ
+shown = 57
+
 -- the first n digits of w are the first n bits
 pub record Shows (n w : ℕ) (bs : List Bool) : Type 0 where
   pub fits : w < 2 ^ 64

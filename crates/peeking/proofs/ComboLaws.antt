@@ -11,6 +11,7 @@ use lib.Dec.{leb}
 use lib.Pow.{pow-mono}
 use borrow.Author.Tests.{le-leb, lt-leb}
 use Rattle.common.proofs.Choices.{cond-yes, cond-no}
+use Rattle.bitstream.specs.Windows.{shown}
 use Rattle.codeword.specs.Codewords.{width, base}
 use Rattle.codeword.specs.Words.{InUse}
 use Rattle.codeword.specs.declared.Codebook.{Codebook}
@@ -86,8 +87,8 @@ module _ (last r e q : ℕ) where
         go (yes l) = omega (arith, width-low last r e q l)
         go (no l) = omega (arith, width-high last r e q (omega arith))
 
-    -- a codeword of at most 57 bits
-    pub width-short : q + 1 + width book q ≤ 57 → width book q ≤ 30
+    -- a codeword that a word shows
+    pub width-short : q + 1 + width book q ≤ shown → width book q ≤ 30
     width-short short = go (decLe q last)
       where
         go : Dec (q ≤ last) → width book q ≤ 30

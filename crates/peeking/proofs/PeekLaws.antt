@@ -13,7 +13,7 @@ use borrow.Author.Tests.{le-leb}
 use Rattle.common.proofs.Choices.{cond-yes}
 use Rattle.bitstream.specs.Bits.{field, number}
 use Rattle.bitstream.specs.Reading.{Parsed, got, after}
-use Rattle.bitstream.specs.Windows.{Shows}
+use Rattle.bitstream.specs.Windows.{shown, Shows}
 use Rattle.bitstream.proofs.FieldLaws.{number-lt, field-number}
 use Rattle.bitstream.proofs.ReadLaws.{zeroPrefix-zeros}
 use Rattle.bitstream.proofs.WindowLaws.{shows-prefix, shows-behind}
@@ -41,12 +41,12 @@ number-bounds v q w some fits e h =
     )
 
 -- so few zeros are in every codebook's limit
-prefix-fits : (cb : Codebook) (q : ℕ) → q + 1 + width cb q ≤ 57 → q ≤ limit cb
+prefix-fits : (cb : Codebook) (q : ℕ) → q + 1 + width cb q ≤ shown → q ≤ limit cb
 unfolding width
 prefix-fits (ExpGolomb k) q h = omega arith
 prefix-fits (RiceExp l r e) q h = omega arith
 
-module _ (cb : Codebook) (n v : ℕ) (bs : List Bool) (s : Shows n v bs) (narrow : n ≤ 57) (some : 0 < v) (q : ℕ) (e : q ≡ leadingZeros 64 v) where
+module _ (cb : Codebook) (n v : ℕ) (bs : List Bool) (s : Shows n v bs) (narrow : n ≤ shown) (some : 0 < v) (q : ℕ) (e : q ≡ leadingZeros 64 v) where
   abbrev w : ℕ
   w = width cb q
 
@@ -92,7 +92,7 @@ module _ (cb : Codebook) (used : InUse cb) (v : ℕ) where
   unfolding lengthAt
   length-le = omega (arith, leading-le 64 v, combo-widths cb q, width-le (b .last) (b .r) (b .e) q (small .last) (small .rice) (small .exp) (leading-le 64 v))
 
-  module _ (h : lengthAt cb v ≤ 57) where
+  module _ (h : lengthAt cb v ≤ shown) where
     narrow-suffix : u ≤ 30
     unfolding lengthAt
     narrow-suffix = omega (arith, combo-widths cb q, width-short (b .last) (b .r) (b .e) q (small .last) (small .rice) (small .exp) (omega (arith, combo-widths cb q)))
@@ -110,9 +110,9 @@ module _ (cb : Codebook) (used : InUse cb) (v : ℕ) where
         let top : 2 ^ (u + 1) ≤ 2 ^ 31 = pow-mono {j = 31} (omega (arith, narrow-suffix)) in
         (bounds .0, omega (arith, bounds .1))
 
-    shown : (n : ℕ) (bs : List Bool) → Shows n v bs → n ≤ 57 → lengthAt cb v ≤ n → readCode cb bs ≡ got (symbolAt cb v) (drop (lengthAt cb v) bs)
+    symbol-read : (n : ℕ) (bs : List Bool) → Shows n v bs → n ≤ shown → lengthAt cb v ≤ n → readCode cb bs ≡ got (symbolAt cb v) (drop (lengthAt cb v) bs)
     unfolding lengthAt symbolAt
-    shown n bs s narrow l = foretold cb n v bs s narrow (some-one v (omega arith)) q refl l narrow-suffix low-base
+    symbol-read n bs s narrow l = foretold cb n v bs s narrow (some-one v (omega arith)) q refl l narrow-suffix low-base
 
   -- what is seen is what is read
   pub peeked-foretells : Foretells cb v (peeked cb v .len) (peeked cb v .value)
@@ -122,6 +122,6 @@ module _ (cb : Codebook) (used : InUse cb) (v : ℕ) where
         some = omega arith;
         short = length-le;
         is = λ n bs s narrow l.
-            let h : lengthAt cb v ≤ 57 = omega arith in
-            shown h n bs s narrow l ∙ ap (λ (x : ℕ). got x (drop (lengthAt cb v) bs)) (sym (cond-yes (symbolAt cb v) 0 (le-leb (lengthAt cb v) 57 h)));
+            let h : lengthAt cb v ≤ shown = omega arith in
+            symbol-read h n bs s narrow l ∙ ap (λ (x : ℕ). got x (drop (lengthAt cb v) bs)) (sym (cond-yes (symbolAt cb v) 0 (le-leb (lengthAt cb v) shown h)));
       }

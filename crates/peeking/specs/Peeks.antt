@@ -7,7 +7,7 @@ use lib.Dec.{leb}
 use lib.Count.{leadingZeros}
 use lib.ListN.{drop}
 use Rattle.bitstream.specs.Reading.{got}
-use Rattle.bitstream.specs.Windows.{Shows}
+use Rattle.bitstream.specs.Windows.{shown, Shows}
 use Rattle.codeword.specs.Codewords.{width, base, readCode}
 use Rattle.codeword.specs.declared.Codebook.{Codebook}
 use Rattle.codeword.specs.declared.Codebook.the-variants.{ExpGolomb, RiceExp}
@@ -24,15 +24,15 @@ lengthAt cb w = leadingZeros 64 w + 1 + width cb (leadingZeros 64 w)
 unfoldable pub symbolAt : Codebook → ℕ → ℕ
 symbolAt cb w = base cb (leadingZeros 64 w) + (w / 2 ^ (64 - lengthAt cb w) - 2 ^ width cb (leadingZeros 64 w))
 
--- the symbol is told of a codeword of at most 57 bits
+-- the symbol is told of a codeword that a word shows at any bit
 abbrev pub peeked : Codebook → ℕ → Peeked
-peeked cb w = record { len = lengthAt cb w; value = cond (leb (lengthAt cb w) 57) (symbolAt cb w) 0 }
+peeked cb w = record { len = lengthAt cb w; value = cond (leb (lengthAt cb w) shown) (symbolAt cb w) 0 }
 
 -- wherever w shows enough bits, the codeword is len bits of them, and its symbol is value
 pub record Foretells (cb : Codebook) (w len value : ℕ) : Type 0 where
   pub some : 0 < len
   pub short : len ≤ 256
-  pub is : (n : ℕ) (bs : List Bool) → Shows n w bs → n ≤ 57 → len ≤ n → readCode cb bs ≡ got value (drop len bs)
+  pub is : (n : ℕ) (bs : List Bool) → Shows n w bs → n ≤ shown → len ≤ n → readCode cb bs ≡ got value (drop len bs)
 
 -- ---- every codebook as a combination
 

@@ -10,7 +10,7 @@ use lib.Dec.{eqb}
 use lib.ListN.{drop, length-drop}
 use lib.Seq.{drop-drop}
 use Rattle.bitstream.specs.Reading.{got}
-use Rattle.bitstream.specs.Windows.{Shows}
+use Rattle.bitstream.specs.Windows.{shown, Shows}
 use Rattle.bitstream.proofs.WindowLaws.{shows-on, shows-bit}
 use Rattle.codeword.specs.Codewords.{readCode}
 use Rattle.codeword.specs.declared.Codebook.{Codebook}
@@ -21,7 +21,7 @@ use Rattle.reading.specs.Steps.{Booked, Gives, HasBit, PairShown}
 use Rattle.reading.specs.declared.Acs.{Acs}
 
 -- w shows n bits from p on
-module _ (B : List Bool) (p n w : ℕ) (s : Shows n w (drop p B)) (narrow : n ≤ 57) where
+module _ (B : List Bool) (p n w : ℕ) (s : Shows n w (drop p B)) (narrow : n ≤ shown) where
   shows-next : (a : ℕ) → a ≤ n → Shows (n - a) ((w * 2 ^ a) % 2 ^ 64) (drop (p + a) B)
   shows-next a h = subst (λ (l : List Bool). Shows (n - a) ((w * 2 ^ a) % 2 ^ 64) l) (drop-drop a p B) (shows-on n w (drop p B) s (omega arith) a h)
 
@@ -39,7 +39,7 @@ module _ (B : List Bool) (p n w : ℕ) (s : Shows n w (drop p B)) (narrow : n �
         within = omega (arith, s .long, length-drop p B);
       }
 
--- what was seen in a word that shows 57 bits from s on
+-- what was seen in the word at s
 module _ (B : List Bool) (s : Acs) (books : Booked s) (w : ℕ) (run level : Peeked) where
   -- what is shown behind the run
   abbrev behind : ℕ
@@ -55,15 +55,15 @@ module _ (B : List Bool) (s : Acs) (books : Booked s) (w : ℕ) (run level : Pee
     pub pair-short : run .len + level .len ≤ 512
     pair-short = omega (arith, first-is .short, second-is .short)
 
-    pub pair-shown : Shows 57 w (drop (s .at) B) → run .len + level .len + 1 ≤ 57 → PairShown B s run level (eqb ((behind * 2 ^ level .len) % 2 ^ 64 / 2 ^ 63) 1)
+    pub pair-shown : Shows shown w (drop (s .at) B) → run .len + level .len + 1 ≤ shown → PairShown B s run level (eqb ((behind * 2 ^ level .len) % 2 ^ 64 / 2 ^ 63) 1)
     pair-shown shows used =
         let whole : run .len % 64 ≡ run .len = mod-eq-of-lt (omega arith) in
         let mid : ℕ = s .at + run .len in
-        let later = subst (λ (i : ℕ). Shows (57 - run .len) ((w * 2 ^ i) % 2 ^ 64) (drop mid B)) (sym whole)
-        (shows-next B (s .at) 57 w shows (omega arith) (run .len) (omega arith)) in
+        let later = subst (λ (i : ℕ). Shows (shown - run .len) ((w * 2 ^ i) % 2 ^ 64) (drop mid B)) (sym whole)
+        (shows-next B (s .at) shown w shows (omega arith) (run .len) (omega arith)) in
         record {
-          first = gives-code B (s .at) 57 w shows (omega arith) (s .runs) (run .len) (run .value) first-is (omega arith);
-          second = gives-code B mid (57 - run .len) behind later (omega arith) (s .levels) (level .len) (level .value) second-is (omega arith);
-          sign = has-sign B (mid + level .len) (57 - run .len - level .len) ((behind * 2 ^ level .len) % 2 ^ 64)
-              (shows-next B mid (57 - run .len) behind later (omega arith) (level .len) (omega arith)) (omega arith) (omega arith);
+          first = gives-code B (s .at) shown w shows (omega arith) (s .runs) (run .len) (run .value) first-is (omega arith);
+          second = gives-code B mid (shown - run .len) behind later (omega arith) (s .levels) (level .len) (level .value) second-is (omega arith);
+          sign = has-sign B (mid + level .len) (shown - run .len - level .len) ((behind * 2 ^ level .len) % 2 ^ 64)
+              (shows-next B mid (shown - run .len) behind later (omega arith) (level .len) (omega arith)) (omega arith) (omega arith);
         }

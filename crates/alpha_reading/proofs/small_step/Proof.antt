@@ -1,17 +1,22 @@
 -- `alpha_reading::small_step` meets its contract.
 -- Assumes nothing.
-use Prim.Native.Nat.{ℕ}
+use Prim.Native.Nat.{ℕ, _+_}
+use native.Mathlib.Omega.{arith}
 use mathlib.Core.Path.{_≡_, ap, _∙_}
 use Rattle.bitstream.specs.Reading.{readBits}
 use Rattle.bitstream.specs.Told.{told, outcomeAt}
 use Rattle.samples.specs.Kinds.{smallWidthOf}
-use Rattle.alpha_reading.proofs.StepAnswers.{small-stepped-no, sign-due, small-stepped}
+use Rattle.samples.proofs.KindLaws.{sizes}
+use Rattle.alpha_reading.proofs.StepAnswers.{small-stepped-no, small-lt, small-stepped}
 use borrow.Author.Needs.{needs}
 use Rattle.alpha_reading.proofs.small_step.Statement.{statement}
 use Rattle.alpha_reading.proofs.small_step.Tie as tie
 
 small-width-requires : tie.Need-small-width-requires
 small-width-requires c κs = search needs
+
+add-read-bits : tie.Need-add-read-bits
+add-read-bits c = record { fits = omega (arith, c .small-width .ensures, sizes (c .before .before .args .kind) .small) }
 
 read-bits-requires : tie.Need-read-bits-requires
 read-bits-requires c κs = search needs
@@ -22,21 +27,20 @@ enum-known-read c = search needs
 enum-known-read-2 : tie.Need-enum-known-read-2
 enum-known-read-2 c = search needs
 
--- what was read is a field of the kind's width
+-- what was read is a field of the kind's width, and a bit
 said : (c : tie.After-read-bits) → let a = c .before .before .before .args in
-    told (c .read-bits .result) ≡ outcomeAt (readBits (smallWidthOf (a .kind))) (a .payload .now) (a .at)
+    told (c .read-bits .result) ≡ outcomeAt (readBits (smallWidthOf (a .kind) + 1)) (a .payload .now) (a .at)
 said c =
     let a = c .before .before .before .args in
-    c .read-bits .ensures ∙ ap (λ (w : ℕ). outcomeAt (readBits w) (a .payload .now) (a .at)) (c .before .small-width .ensures)
+    c .read-bits .ensures ∙ ap (λ (w : ℕ). outcomeAt (readBits (w + 1)) (a .payload .now) (a .at)) (c .before .small-width .ensures)
 
-sign-step-requires : tie.Need-sign-step-requires
-sign-step-requires c κs =
+small-sample-requires : tie.Need-small-sample-requires
+small-sample-requires c κs =
     let b = c .before .before .before in
     let start = b .before .before .before in
     let a = start .args in
     let g = c .before .read2 .given in
-    let d = sign-due (a .payload .now) (b .read-bits .result) (a .kind) (a .prev) (a .at) (start .pre .0) (said b) (g .0 .0) (g .0 .1 .0) (g .1) in
-    (d .0, start .pre .1, d .1)
+    (start .pre .1, small-lt (a .payload .now) (b .read-bits .result) (a .kind) (a .prev) (a .at) (start .pre .0) (said b) (g .0 .0) (g .0 .1 .0) (g .1))
 
 returns : tie.Need-returns
 returns c =
@@ -53,16 +57,17 @@ returns-2 c =
     let a = start .args in
     let g = c .before .before .read2 .given in
     small-stepped (a .payload .now) (b .read-bits .result) (a .kind) (a .prev) (a .at) (start .pre .0) (said b) (g .0 .0) (g .0 .1 .0) (g .1)
-    (c .sign-step .result) (c .sign-step .ensures)
+    (c .small-sample .result) (c .small-sample .ensures)
 
 pub small-step-spec : {M : Type 1} → statement M
 small-step-spec =
     tie.close
     (tie.spec
     small-width-requires
+    add-read-bits
     read-bits-requires
     enum-known-read
     enum-known-read-2
-    sign-step-requires
+    small-sample-requires
     returns
     returns-2)

@@ -6,6 +6,7 @@ use mathlib.Core.Path.{_≡_, sym, ap, ap₂, _∙_, subst}
 use lib.Count.{leadingZeros, leading-le}
 use borrow.Author.Tests.{le-leb, lt-leb}
 use Rattle.common.proofs.Choices.{cond-yes, cond-no}
+use Rattle.bitstream.specs.Windows.{shown}
 use Rattle.codeword.specs.Codewords.{width, base}
 use Rattle.peeking.specs.Peeks.{lengthAt, symbolAt, asBook, Small}
 use Rattle.peeking.specs.declared.Combo.{Combo}
@@ -40,7 +41,7 @@ returns c =
     let l = c .before in
     let a = l .before .before .args in
     ap₂ {C = Peeked} (λ (x y : ℕ). record { len = x; value = y }) (length-is l)
-    (sym (cond-no (symbolAt (a .book) (a .w)) 0 (lt-leb (lengthAt (a .book) (a .w)) 57 (omega (arith, length-is l, c .if1 .taken)))))
+    (sym (cond-no (symbolAt (a .book) (a .w)) 0 (lt-leb (lengthAt (a .book) (a .w)) shown (omega (arith, length-is l, c .if1 .taken)))))
 
 sub-x : tie.Need-sub-x
 sub-x c = search needs
@@ -90,7 +91,7 @@ returns-2 c =
     let l = c .before .before in
     let a = l .before .before .args in
     ap₂ {C = Peeked} (λ (x y : ℕ). record { len = x; value = y }) (length-is l)
-    (symbol-is c ∙ sym (cond-yes (symbolAt (a .book) (a .w)) 0 (le-leb (lengthAt (a .book) (a .w)) 57 (omega (arith, length-is l, c .before .if1 .left)))))
+    (symbol-is c ∙ sym (cond-yes (symbolAt (a .book) (a .w)) 0 (le-leb (lengthAt (a .book) (a .w)) shown (omega (arith, length-is l, c .before .if1 .left)))))
 
 pub peek-spec : {M : Type 1} → statement M
 peek-spec =

@@ -5,7 +5,7 @@ use mathlib.Core.Path.{sym, ap, _∙_, subst}
 use lib.ListN.{drop}
 use Rattle.bitstream.specs.Bits.{bitsOf}
 use Rattle.bitstream.proofs.AnswerLaws.{told-taken}
-use Rattle.bitstream.specs.Windows.{wordAt}
+use Rattle.bitstream.specs.Windows.{wordAt, shown}
 use Rattle.bitstream.proofs.PlaceLaws.{word-shows}
 use Rattle.codeword.specs.Codewords.{readCode}
 use Rattle.peeking.specs.Peeks.{peeked, Foretells}
@@ -55,7 +55,7 @@ returns-3 c =
     let f = subst (λ (x : Peeked). Foretells (a .book) (wordAt p (a .at)) (x .len) (x .value))
     (sym (k .peek .ensures ∙ ap (peeked (a .book)) (w .window .ensures))) (peeked-foretells (a .book) (start .pre .0) (wordAt p (a .at))) in
     told-taken (readCode (a .book)) p (a .at) (start .pre .1) (one .value) (one .len)
-    (f .is 57 (drop (a .at) (bitsOf p)) s (omega arith) (e .if2 .left)) (omega (arith, e .if2 .left, s .long))
+    (f .is shown (drop (a .at) (bitsOf p)) s (omega arith) (e .if2 .left)) (omega (arith, e .if2 .left, s .long))
 
 pub read-spec : {M : Type 1} → statement M
 read-spec =

@@ -5,7 +5,7 @@ use native.Mathlib.Omega.{arith}
 use mathlib.Core.Path.{sym, subst}
 use lib.ListN.{drop}
 use Rattle.bitstream.specs.Bits.{bitsOf}
-use Rattle.bitstream.specs.Windows.{Shows}
+use Rattle.bitstream.specs.Windows.{shown, Shows}
 use Rattle.bitstream.proofs.PlaceLaws.{word-shows}
 use Rattle.reading.proofs.PairLaws.{pair-short, pair-shown}
 use borrow.Author.Needs.{needs}
@@ -70,7 +70,7 @@ shown-pair-requires c κs =
     let start = w .before .before .before .before in
     let a = start .args in
     let B = bitsOf (a .payload .now) in
-    let shows = subst (λ (x : ℕ). Shows 57 x (drop (a .s .at) B)) (sym (w .window .ensures)) (word-shows (a .payload .now) (a .s .at) (w .before .if1 .left)) in (
+    let shows = subst (λ (x : ℕ). Shows shown x (drop (a .s .at) B)) (sym (w .window .ensures)) (word-shows (a .payload .now) (a .s .at) (w .before .if1 .left)) in (
       start .pre .0,
       start .pre .1,
       start .pre .2,

@@ -6,7 +6,7 @@ use native.Mathlib.Omega.{arith}
 use lib.ListN.{take, drop}
 use lib.Pow.{shr-shr}
 use Rattle.bitstream.specs.Bits.{bitsOf, number}
-use Rattle.bitstream.specs.Windows.{Shows}
+use Rattle.bitstream.specs.Windows.{shown, Shows}
 use Rattle.bitstream.proofs.PlaceLaws.{number-take-32, word-shows}
 use Rattle.bitstream.proofs.WindowLaws.{shows-take}
 use borrow.Author.Needs.{needs}
@@ -29,22 +29,22 @@ shr-result : tie.Need-shr-result
 shr-result c = search needs
 
 -- what is shown of the payload
-shown : (c : tie.After-window) → let a = c .before .before .before .args in
+field-is : (c : tie.After-window) → let a = c .before .before .before .args in
     c .window .result / 2 / 2 ^ (63 - a .n) ≡ number (take (a .n) (drop (a .p) (bitsOf (a .payload .now))))
-shown c =
+field-is c =
     let a = c .before .before .before .args in
     let w = c .window .result in
     let e : 1 + (63 - a .n) ≡ 64 - a .n = omega arith in
-    let s = subst (λ (x : ℕ). Shows 57 x (drop (a .p) (bitsOf (a .payload .now)))) (sym (c .window .ensures)) (word-shows (a .payload .now) (a .p) (omega arith)) in
-    shr-shr w 1 (63 - a .n) ∙ ap (λ (k : ℕ). w / 2 ^ k) e ∙ shows-take 57 w (drop (a .p) (bitsOf (a .payload .now))) s (omega arith) (a .n) (omega arith)
+    let s = subst (λ (x : ℕ). Shows shown x (drop (a .p) (bitsOf (a .payload .now)))) (sym (c .window .ensures)) (word-shows (a .payload .now) (a .p) (omega arith)) in
+    shr-shr w 1 (63 - a .n) ∙ ap (λ (k : ℕ). w / 2 ^ k) e ∙ shows-take shown w (drop (a .p) (bitsOf (a .payload .now))) s (omega arith) (a .n) (omega arith)
 
 cast-result-2 : tie.Need-cast-result-2
 cast-result-2 c =
     let a = c .before .before .before .args in
-    record { fits = subst (λ (x : ℕ). x < 2 ^ 32) (sym (shown c)) (number-take-32 (a .n) (drop (a .p) (bitsOf (a .payload .now))) (omega arith)) }
+    record { fits = subst (λ (x : ℕ). x < 2 ^ 32) (sym (field-is c)) (number-take-32 (a .n) (drop (a .p) (bitsOf (a .payload .now))) (omega arith)) }
 
 returns : tie.Need-returns
-returns c = shown c
+returns c = field-is c
 
 field-plain-requires : tie.Need-field-plain-requires
 field-plain-requires c κs = search needs

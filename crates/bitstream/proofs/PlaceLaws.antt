@@ -4,7 +4,7 @@ use mathlib.Core.Path.{_≡_, refl, sym, ap, ap₂, _∙_}
 use mathlib.Core.Bool.{Bool, true, false, _&&_}
 use mathlib.Core.List.{List, [], _∷_, _++_}
 use Prim.Native.Nat.{ℕ, zero, suc, _+_, _-_, _*_, _/_, _%_, _^_, _≤_, _<_}
-use native.Mathlib.Nat.{mod-eq-of-lt, mod-lt, lt-of-lt-of-le}
+use native.Mathlib.Nat.{zero-mul, mod-eq-of-lt, mod-lt, lt-of-lt-of-le}
 use native.Mathlib.Numerals.{add-one}
 use native.Mathlib.Omega.{arith}
 use lib.Dec.{eqb}
@@ -60,63 +60,7 @@ field-turn bs i v b h ev eb = ap₂ (λ (x y : ℕ). x * 2 + y) ev (byte-val b �
 pub number-take-32 : (i : ℕ) (bs : List Bool) → i ≤ 32 → number (take i bs) < 2 ^ 32
 number-take-32 i bs h = lt-of-lt-of-le (number-take-lt i bs) (pow-mono {j = 32} h)
 
--- ---- a field, out of eight bytes
-
--- one byte more
-pub load-more : (s : List ℕ) (i j : ℕ) → i + j < length s → getD s (i + j) 0 < 256
-    → number (bitsOf (take (j + 1) (drop i s))) ≡ number (bitsOf (take j (drop i s))) * 256 + getD s (i + j) 0
-unfolding bitsOf number
-load-more s i j h small =
-    let b : ℕ = getD (drop i s) j 0 in
-    let e : b ≡ getD s (i + j) 0 = getD-drop i s j 0 in
-    ap (λ (k : ℕ). number (bitsOf (take k (drop i s)))) (add-one j)
-    ∙ ap (λ (l : List ℕ). number (bitsOf l)) (take-suc (drop i s) j 0 (omega (arith, length-drop i s)))
-    ∙ ap number (bits-append (take j (drop i s)) (b ∷ []))
-    ∙ number-append (bitsOf (take j (drop i s))) (bitsOf (b ∷ []))
-    ∙ ap₂ (λ (x y : ℕ). number (bitsOf (take j (drop i s))) * 2 ^ x + y) (length-bits (b ∷ []))
-    (number-append (field 8 b) [] ∙ omega (arith, number-field 8 b, mod-eq-of-lt {n = getD s (i + j) 0} {m = 256} small))
-
-pub load-lt : (s : List ℕ) (i j : ℕ) → j < 8 → number (bitsOf (take j (drop i s))) < 2 ^ 56
-load-lt s i j h =
-    let l : length (bitsOf (take j (drop i s))) ≤ 56 = omega (arith, length-bits (take j (drop i s)), length-take j (drop i s)) in
-    lt-of-lt-of-le (number-lt (bitsOf (take j (drop i s)))) (pow-mono {j = 56} l)
-
--- a part of a word, by the shifts that take it out
-number-part : (w : List Bool) (k n : ℕ) → length w ≡ 64 → k + n ≤ 64 → (number w * 2 ^ k) % 2 ^ 64 / 2 ^ (64 - n) ≡ number (take n (drop k w))
-number-part w k n len fits =
-    let x : ℕ = number (drop k w) in
-    let a : 64 ≡ 64 - k + k = omega arith in
-    let m : 64 - n ≡ k + (64 - k - n) = omega arith in
-    let l : length (drop k w) ≡ n + (64 - k - n) = length-drop k w ∙ omega arith in
-    let high-part : (number w * 2 ^ k) % 2 ^ 64 ≡ x * 2 ^ k =
-    ap (λ (t : ℕ). (number w * 2 ^ k) % 2 ^ t) a ∙ shl-mod (number w) (64 - k) k ∙ ap (λ (y : ℕ). y * 2 ^ k) (number-drop w k (64 - k) (omega arith)) in
-    ap₂ (λ (y t : ℕ). y / 2 ^ t) high-part m
-    ∙ sym (shr-shr (x * 2 ^ k) k (64 - k - n))
-    ∙ ap (λ (y : ℕ). y / 2 ^ (64 - k - n)) (shl-shr x k)
-    ∙ number-take (drop k w) n (64 - k - n) l
-
--- what is unread at p, where eight bytes are left
-pub word-shows : (s : List ℕ) (p : ℕ) → p / 8 + 8 ≤ length s → Shows shown (wordAt s p) (drop p (bitsOf s))
-unfolding wordAt
-word-shows s p room =
-    let i : ℕ = p / 8 in
-    let w : List Bool = bitsOf (take 8 (drop i s)) in
-    let t : List Bool = bitsOf (drop 8 (drop i s)) in
-    let k : ℕ = p % 8 in
-    let e : p ≡ 8 * i + k = omega arith in
-    let lw : length w ≡ 64 = length-bits (take 8 (drop i s)) ∙ ap (λ (x : ℕ). 8 * x) (length-take-le 8 (drop i s) (omega (arith, length-drop i s))) in
-    let rest : drop p (bitsOf s) ≡ drop k w ++ t =
-    ap (λ (x : ℕ). drop x (bitsOf s)) e ∙ sym (drop-drop k (8 * i) (bitsOf s))
-    ∙ ap (drop k) (sym (bits-drop i s) ∙ ap bitsOf (sym (take-append-drop 8 (drop i s))) ∙ bits-append (take 8 (drop i s)) (drop 8 (drop i s)))
-    ∙ drop-append-le k w t (omega arith) in
-    record {
-      fits = mod-lt (number w * 2 ^ k) (pow-pos 64);
-      long = omega (arith, length-bits s, length-drop p (bitsOf s));
-      is = number-part w k shown lw (omega arith)
-          ∙ sym (ap (λ (l : List Bool). number (take shown l)) rest ∙ ap number (take-append-le shown (drop k w) t (omega (arith, length-drop k w))));
-    }
-
--- ---- the end of data
+-- ---- no 1 among bits
 
 pub ended-append : (xs ys : List Bool) → ended (xs ++ ys) ≡ (ended xs && ended ys)
 unfolding ended
@@ -144,6 +88,92 @@ ended-number (false ∷ bs) = let e : number bs ≡ 0 * 2 ^ length bs + number b
 
 pub ended-field : (n v : ℕ) → ended (field n v) ≡ eqb (v % 2 ^ n) 0
 ended-field n v = ended-number (field n v) ∙ ap (λ (x : ℕ). eqb x 0) (number-field n v)
+
+-- ---- a field, out of eight bytes
+
+-- one byte more
+pub load-more : (s : List ℕ) (i j : ℕ) → i + j < length s → getD s (i + j) 0 < 256
+    → number (bitsOf (take (j + 1) (drop i s))) ≡ number (bitsOf (take j (drop i s))) * 256 + getD s (i + j) 0
+unfolding bitsOf number
+load-more s i j h small =
+    let b : ℕ = getD (drop i s) j 0 in
+    let e : b ≡ getD s (i + j) 0 = getD-drop i s j 0 in
+    ap (λ (k : ℕ). number (bitsOf (take k (drop i s)))) (add-one j)
+    ∙ ap (λ (l : List ℕ). number (bitsOf l)) (take-suc (drop i s) j 0 (omega (arith, length-drop i s)))
+    ∙ ap number (bits-append (take j (drop i s)) (b ∷ []))
+    ∙ number-append (bitsOf (take j (drop i s))) (bitsOf (b ∷ []))
+    ∙ ap₂ (λ (x y : ℕ). number (bitsOf (take j (drop i s))) * 2 ^ x + y) (length-bits (b ∷ []))
+    (number-append (field 8 b) [] ∙ omega (arith, number-field 8 b, mod-eq-of-lt {n = getD s (i + j) 0} {m = 256} small))
+
+pub load-lt : (s : List ℕ) (i j : ℕ) → j < 8 → number (bitsOf (take j (drop i s))) < 2 ^ 56
+load-lt s i j h =
+    let l : length (bitsOf (take j (drop i s))) ≤ 56 = omega (arith, length-bits (take j (drop i s)), length-take j (drop i s)) in
+    lt-of-lt-of-le (number-lt (bitsOf (take j (drop i s)))) (pow-mono {j = 56} l)
+
+-- a word of eight bytes, without its first k bits
+number-high : (w : List Bool) (k : ℕ) → length w ≡ 64 → k ≤ 64 → (number w * 2 ^ k) % 2 ^ 64 ≡ number (drop k w) * 2 ^ k
+number-high w k len fits =
+    let a : 64 ≡ 64 - k + k = omega arith in
+    ap (λ (t : ℕ). (number w * 2 ^ k) % 2 ^ t) a ∙ shl-mod (number w) (64 - k) k ∙ ap (λ (y : ℕ). y * 2 ^ k) (number-drop w k (64 - k) (omega arith))
+
+-- the first n of them
+number-part : (x : List Bool) (k n : ℕ) → length x ≡ 64 - k → k + n ≤ 64 → number x * 2 ^ k / 2 ^ (64 - n) ≡ number (take n x)
+number-part x k n len fits =
+    let m : 64 - n ≡ k + (64 - k - n) = omega arith in
+    let l : length x ≡ n + (64 - k - n) = omega arith in
+    ap (λ (t : ℕ). number x * 2 ^ k / 2 ^ t) m
+    ∙ sym (shr-shr (number x * 2 ^ k) k (64 - k - n))
+    ∙ ap (λ (y : ℕ). y / 2 ^ (64 - k - n)) (shl-shr (number x) k)
+    ∙ number-take x n (64 - k - n) l
+
+-- what is unread at p, where eight bytes are left: the rest of them, and the bytes behind
+module _ (s : List ℕ) (p : ℕ) (room : p / 8 + 8 ≤ length s) where
+  abbrev eight : List Bool
+  eight = bitsOf (take 8 (drop (p / 8) s))
+
+  abbrev rest : List Bool
+  rest = drop (p % 8) eight
+
+  length-eight : length eight ≡ 64
+  length-eight =
+      length-bits (take 8 (drop (p / 8) s)) ∙ ap (λ (x : ℕ). 8 * x) (length-take-le 8 (drop (p / 8) s) (omega (arith, length-drop (p / 8) s)))
+
+  length-rest : length rest ≡ 64 - p % 8
+  length-rest = length-drop (p % 8) eight ∙ ap (λ (x : ℕ). x - p % 8) length-eight
+
+  unread-is : drop p (bitsOf s) ≡ rest ++ bitsOf (drop 8 (drop (p / 8) s))
+  unread-is =
+      let e : p ≡ 8 * (p / 8) + p % 8 = omega arith in
+      ap (λ (x : ℕ). drop x (bitsOf s)) e ∙ sym (drop-drop (p % 8) (8 * (p / 8)) (bitsOf s))
+      ∙ ap (drop (p % 8))
+      (sym (bits-drop (p / 8) s) ∙ ap bitsOf (sym (take-append-drop 8 (drop (p / 8) s))) ∙ bits-append (take 8 (drop (p / 8) s)) (drop 8 (drop (p / 8) s)))
+      ∙ drop-append-le (p % 8) eight (bitsOf (drop 8 (drop (p / 8) s))) (omega (arith, length-eight))
+
+  word-is : wordAt s p ≡ number rest * 2 ^ (p % 8)
+  unfolding wordAt
+  word-is = number-high eight (p % 8) length-eight (omega arith)
+
+  pub word-shows : Shows shown (wordAt s p) (drop p (bitsOf s))
+  unfolding wordAt
+  word-shows =
+      record {
+        fits = mod-lt (number eight * 2 ^ (p % 8)) (pow-pos 64);
+        long = omega (arith, length-bits s, length-drop p (bitsOf s));
+        is = ap (λ (x : ℕ). x / 2 ^ (64 - shown)) word-is
+            ∙ number-part rest (p % 8) shown length-rest (omega arith)
+            ∙ sym (ap (λ (l : List Bool). number (take shown l)) unread-is
+            ∙ ap number (take-append-le shown rest (bitsOf (drop 8 (drop (p / 8) s))) (omega (arith, length-rest))));
+      }
+
+  -- a word that is not 0 has a 1 among the bits
+  pub word-some : (wordAt s p ≡ 0 → ⊥) → ended (drop p (bitsOf s)) ≡ false
+  word-some n =
+      let some : number rest ≡ 0 → ⊥ = λ z. n (word-is ∙ ap (λ (x : ℕ). x * 2 ^ (p % 8)) z ∙ zero-mul (2 ^ (p % 8))) in
+      ap ended unread-is
+      ∙ ended-append rest (bitsOf (drop 8 (drop (p / 8) s)))
+      ∙ ap (λ (b : Bool). b && ended (bitsOf (drop 8 (drop (p / 8) s)))) (ended-number rest ∙ ne-eqb (number rest) 0 some)
+
+-- ---- the end of data
 
 -- what is unread at p: the rest of its byte, and the bytes after it
 pub ended-at : (s : List ℕ) (p : ℕ) → p / 8 < length s

@@ -80,3 +80,17 @@ pub fn zero_from(payload: &[u8], i: usize) -> bool
     }
     true
 }
+
+// Whether no 1 stands at p or behind it: the rest of p's byte, then byte by byte.
+pub fn ended_at(payload: &[u8], p: usize) -> bool
+    ensures { λ r. ⌜ r ≡ ended (drop p (bitsOf (now (payload .entry)))) ⌝ }
+{
+    let i = p / 8;
+    if payload.len() <= i {
+        return true;
+    }
+    if wide(payload[i]) % common::pow2((8 - p % 8) as u32) != 0 {
+        return false;
+    }
+    zero_from(payload, i + 1)
+}

@@ -138,13 +138,13 @@ impl Cursor {
         ensures { λ r. ⌜ r ≡ ended (drop (self .at) (bitsOf (now (payload .entry)))) ⌝ }
     {
         let at = self.at;
-        let i = at / 8;
-        if payload.len() <= i {
-            return true;
+        if payload.len() < at / 8 + 8 {
+            return fields::ended_at(payload, at);
         }
-        if fields::wide(payload[i]) % common::pow2((8 - at % 8) as u32) != 0 {
+        // nearly always there is a 1 among the next bits
+        if windows::window(payload, at) != 0 {
             return false;
         }
-        fields::zero_from(payload, i + 1)
+        fields::ended_at(payload, at)
     }
 }

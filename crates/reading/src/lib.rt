@@ -1,5 +1,6 @@
 // Reading scanned coefficients, an element at a time: the reading half of entropy.rs. One loop reads the DCs and one the runs and levels; a refusal goes up as it is.
 ghost use mathlib.Core.Path.{_≡_};
+ghost use mathlib.Core.Bool.{true, false};
 ghost use Prim.Native.Nat.{_+_, _*_, _≤_, _<_};
 ghost use lib.IntN.{natAbs};
 ghost use lib.ListN.{length};
@@ -10,7 +11,7 @@ ghost use Rattle.elements.specs.Limits.{most};
 ghost use Rattle.elements.specs.Decoding.{nil};
 ghost use Rattle.elements.specs.Limits.{blockLimit};
 ghost use Rattle.reading.specs.Steps.{RunDue, dcStepOf, firstDue, dcDue, DcStepped, behindRun, RunStepped, levelStepOf, levelDue, signDue, LevelStepped};
-ghost use Rattle.reading.specs.Steps.{PairShown, PairStepped};
+ghost use Rattle.reading.specs.Steps.{Booked, PairShown, PairStepped};
 ghost use Rattle.reading.specs.Steps.{DcsStand, AcsStand, behindDcs, DcsRead, reachedSays, answerOf};
 use bitstream::Cursor;
 use bitstream::Reached;
@@ -259,13 +260,31 @@ fn shown_pair(
     )
 }
 
-// A run and its level: nearly always one word shows both with the sign, and nothing else is read.
-fn pair_step(payload: &[u8], total: usize, s: Acs) -> LevelStep
-    requires { ⌜ Placed (now payload) (s .at) × RunDue (bitsOf (now payload)) total s × (total ≤ 2048) ⌝ }
-    ensures { λ r. ⌜ PairStepped (bitsOf (now (payload .entry))) total s r ⌝ }
+// What one word shows: where it fits, a run, a level and whether its sign is a 1.
+struct Seen {
+    fits: bool,
+    run: Peeked,
+    level: Peeked,
+    negative: bool,
+}
+
+fn unseen() -> Seen
+    ensures { λ r. ⌜ r .fits ≡ false ⌝ }
+{
+    Seen {
+        fits: false,
+        run: Peeked { len: 0, value: 0 },
+        level: Peeked { len: 0, value: 0 },
+        negative: false,
+    }
+}
+
+fn see(payload: &[u8], s: Acs) -> Seen
+    requires { ⌜ Placed (now payload) (s .at) × Booked s ⌝ }
+    ensures { λ r. ⌜ (r .fits ≡ true → PairShown (bitsOf (now (payload .entry))) s (r .run) (r .level) (r .negative)) ⌝ }
 {
     if payload.len() < s.at / 8 + 8 {
-        return plain_pair(payload, total, s);
+        return unseen();
     }
     let w = windows::window(payload, s.at);
     let runs = s.runs;
@@ -275,10 +294,30 @@ fn pair_step(payload: &[u8], total: usize, s: Acs) -> LevelStep
     let level = peeking::peek(levels, behind);
     let used = run.len + level.len + 1;
     if peeking::SHOWN < used {
-        return plain_pair(payload, total, s);
+        return unseen();
     }
     let sign = (behind << level.len) >> 63;
-    shown_pair(payload, total, s, run, level, sign == 1)
+    Seen {
+        fits: true,
+        run,
+        level,
+        negative: sign == 1,
+    }
+}
+
+// A run and its level: nearly always one word shows both with the sign, and nothing else is read. One call of each, so that the compiler takes them
+// into the loop and the state stays in registers.
+fn pair_step(payload: &[u8], total: usize, s: Acs) -> LevelStep
+    requires { ⌜ Placed (now payload) (s .at) × RunDue (bitsOf (now payload)) total s × (total ≤ 2048) ⌝ }
+    ensures { λ r. ⌜ PairStepped (bitsOf (now (payload .entry))) total s r ⌝ }
+{
+    let seen = see(payload, s);
+    if seen.fits {
+        let run = seen.run;
+        let level = seen.level;
+        return shown_pair(payload, total, s, run, level, seen.negative);
+    }
+    plain_pair(payload, total, s)
 }
 
 // The runs and levels from the bit `at` on, behind the DCs.

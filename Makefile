@@ -1,5 +1,5 @@
 # Short names for the scripts of this repository, each of which can be run by itself.
-.PHONY: decode prove test more-edits compare compare-long host bench answers lib install help clean
+.PHONY: decode prove test more-edits compare compare-long host bench cases lib install help clean
 .DELETE_ON_ERROR:
 
 FILE = crates/decode/stdin
@@ -31,7 +31,7 @@ compare:
 	target/compare/driver
 	target/compare/vectors
 	rt check decode
-	target/compare/sample tools/run.sh target/bin/decode
+	target/compare/sample_program tools/run.sh target/bin/decode
 
 # The same with tens of millions of random cases, from another seed.
 compare-long: SEED = 3
@@ -44,7 +44,7 @@ compare-long:
 	target/compare/driver $(SEED) $(CASES) 1
 	target/compare/driver_checked $(SEED) 3000000 7
 
-# The library as C sees it: the host programs, the header, and the examples of the documents.
+# The library as C sees it: the host programs, the stored cases, the header, and the examples of the documents.
 host:
 	host/test.sh
 
@@ -52,16 +52,16 @@ host:
 bench:
 	bench/run.sh
 
-# The stored answers of the program replay, written anew by the oracle.
-answers:
-	oracle/answers.sh
+# The stored cases and their answers, written anew by the oracle.
+cases:
+	cases/store.sh
 
 # The library for C on x86-64, its header and its file for pkg-config, in target/dist.
 lib: target/dist/lib/libcart.a target/dist/include/cart.h target/dist/lib/pkgconfig/cart.pc
 
 # rt would prove the crate again at each call, which takes half a minute
-target/staticlib/libcart.a: crates.txt $(shell find crates -name '*.rt' -o -name '*.antt')
-	rt staticlib cart
+target/staticlib/lib%.a: crates.txt $(shell find crates -name '*.rt' -o -name '*.antt')
+	rt staticlib $*
 
 target/dist/lib/libcart.a: target/staticlib/libcart.a
 	install -D -m 644 $< $@

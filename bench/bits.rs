@@ -1,51 +1,55 @@
-// The bit layer, one call for each field: the proved code across the C face, which tests the limits anew
-// in every call and takes the position by value, against the Rust's reader and writer objects. The Rust
-// writes into a Vec that grows; the proved code into a lent buffer.
+// The bit layer, one call for each field: the proved code across the face of `probe`, which tests the limits anew in
+// every call and takes the position by value, against the Rust's reader and writer objects. The Rust writes into a Vec
+// that grows; the proved code into a lent buffer.
 use std::hint::black_box;
 
+use cases::random::Random;
+use faces::probe;
 use oracle_real::bitstream::{BitReader, BitWriter};
 
-use crate::probe;
-use crate::random::Random;
-use crate::Plan;
+use crate::{Plan, Side};
 
 const FIELDS: usize = 10_000_000;
 /// As long as a payload may be: the fields are read and written in chunks of this many bytes.
-const CHUNK: usize = 65_536;
+const CHUNK: usize = model::MOST_BYTES;
 
 /// Fields that fill a chunk up to where the next would not fit, and the bytes that they make.
 struct Chunk {
-    widths: Vec<u8>,
+    widths: Vec<u32>,
     values: Vec<u32>,
     bytes: Vec<u8>,
 }
 
 pub fn run(plan: &Plan) {
-    let chunks = chunks();
-    equal_answers(&chunks);
+    let chunks = &chunks();
+    let values = sum(chunks.iter().flat_map(|chunk| chunk.values.iter().copied()));
+    let proved = || sum(black_box(chunks).iter().flat_map(proved_read));
+    let rust = || sum(black_box(chunks).iter().flat_map(rust_read));
+    race(plan, "read a field of 1 to 32 bits", FIELDS, values, proved, rust);
 
-    let mut proved = || use_up(chunks.iter().flat_map(|chunk| proved_read(black_box(chunk))));
-    let mut rust = || use_up(chunks.iter().flat_map(|chunk| rust_read(black_box(chunk))));
-    plan.race("read a field of 1 to 32 bits", FIELDS, &mut [&mut proved, &mut rust]);
+    let proved = || {
+        let mut buffer = vec![0xff; CHUNK];
+        black_box(chunks).iter().all(|chunk| proved_write(chunk, &mut buffer) == chunk.bytes)
+    };
+    let rust = || black_box(chunks).iter().all(|chunk| rust_write(chunk) == chunk.bytes);
+    race(plan, "write a field of 1 to 32 bits", FIELDS, true, proved, rust);
 
-    let mut buffer = vec![0; CHUNK];
-    let mut proved = || chunks.iter().for_each(|chunk| proved_write(black_box(chunk), black_box(&mut buffer)));
-    let mut rust = || chunks.iter().for_each(|chunk| drop(black_box(rust_write(black_box(chunk)))));
-    plan.race("write a field of 1 to 32 bits", FIELDS, &mut [&mut proved, &mut rust]);
-
-    // for information: a user of the Rust has no such call
-    let sparse = sparse_bytes();
-    let ones = proved_prefixes(&sparse).len();
-    let mut proved = || drop(black_box(proved_prefixes(black_box(&sparse))));
-    let mut rust = || drop(black_box(rust_prefixes(black_box(&sparse))));
-    plan.race("(count the zeros before a 1, 7 on average)", ones, &mut [&mut proved, &mut rust]);
+    // for information: a user of the Rust has no such call. A byte with a single 1 after another, each in its place.
+    let random = &mut Random::new(2);
+    let sparse: &Vec<u8> = &(0..CHUNK).map(|_| 1 << random.below(8)).collect();
+    let (proved, rust) = (|| proved_prefixes(black_box(sparse)), || rust_prefixes(black_box(sparse)));
+    race(plan, "(count the zeros before a 1, 7 on average)", sparse.len(), rust(), proved, rust);
 
     let bytes = &chunks[0].bytes;
-    let bits = rust_asks(bytes);
-    assert_eq!(proved_asks(bytes), bits, "the ends of data differ");
-    let mut proved = || assert_eq!(proved_asks(black_box(bytes)), bits);
-    let mut rust = || assert_eq!(rust_asks(black_box(bytes)), bits);
-    plan.race("(read a bit, then ask for the end of data)", bits, &mut [&mut proved, &mut rust]);
+    let (proved, rust) = (|| proved_asks(black_box(bytes)), || rust_asks(black_box(bytes)));
+    race(plan, "(read a bit, then ask for the end of data)", rust(), rust(), proved, rust);
+}
+
+/// A race of two, who are to answer what is wanted.
+fn race<A: PartialEq>(plan: &Plan, what: &str, things: usize, wanted: A, proved: impl Fn() -> A, rust: impl Fn() -> A) {
+    let answer = |side| if side == Side::Real { rust() } else { proved() };
+    let (right, mut run) = (|side| answer(side) == wanted, |side| drop(black_box(answer(side))));
+    plan.race(what, "", things, &[Side::Proved, Side::Real], &right, &mut run);
 }
 
 /// Fields of 1 to 32 bits, widths and values pseudo-random.
@@ -62,7 +66,7 @@ fn chunks() -> Vec<Chunk> {
             }
             let value = (random.next() >> (64 - n)) as u32;
             writer.write_bits(value, n);
-            widths.push(n as u8);
+            widths.push(n);
             values.push(value);
         }
         left -= widths.len();
@@ -71,23 +75,9 @@ fn chunks() -> Vec<Chunk> {
     chunks
 }
 
-/// Both sides must read and write what was made, or the times say nothing.
-fn equal_answers(chunks: &[Chunk]) {
-    for chunk in chunks {
-        assert!(proved_read(chunk).eq(chunk.values.iter().copied()), "the proved code reads something else");
-        assert!(rust_read(chunk).eq(chunk.values.iter().copied()), "the Rust reads something else");
-        let mut buffer = vec![0xff; chunk.bytes.len()];
-        proved_write(chunk, &mut buffer);
-        assert!(buffer == chunk.bytes, "the proved code writes something else");
-        assert!(rust_write(chunk) == chunk.bytes, "the Rust writes something else");
-    }
-    let sparse = sparse_bytes();
-    assert!(proved_prefixes(&sparse) == rust_prefixes(&sparse), "the prefixes differ");
-}
-
-/// Has every value computed, and the compiler believe that it matters.
-fn use_up(values: impl Iterator<Item = u32>) {
-    black_box(values.fold(0, u32::wrapping_add));
+/// One number for values in their order.
+fn sum(values: impl Iterator<Item = u32>) -> u32 {
+    values.fold(0, |sum, value| sum.rotate_left(1) ^ value)
 }
 
 // ---- both sides
@@ -95,7 +85,7 @@ fn use_up(values: impl Iterator<Item = u32>) {
 fn proved_read(chunk: &Chunk) -> impl Iterator<Item = u32> + '_ {
     let mut at = 0;
     chunk.widths.iter().map(move |&n| {
-        let told = probe::read_bits(&chunk.bytes, at, n.into());
+        let told = probe::read_bits(&chunk.bytes, at, n);
         at = told.next;
         told.value
     })
@@ -103,28 +93,21 @@ fn proved_read(chunk: &Chunk) -> impl Iterator<Item = u32> + '_ {
 
 fn rust_read(chunk: &Chunk) -> impl Iterator<Item = u32> + '_ {
     let mut reader = BitReader::new(&chunk.bytes);
-    chunk.widths.iter().map(move |&n| reader.read_bits(n.into()).expect("a field of the chunk"))
+    chunk.widths.iter().map(move |&n| reader.read_bits(n).expect("a field of the chunk"))
 }
 
-fn proved_write(chunk: &Chunk, buffer: &mut [u8]) {
+fn proved_write<'a>(chunk: &Chunk, buffer: &'a mut [u8]) -> &'a [u8] {
     let mut at = 0;
     for (&n, &value) in chunk.widths.iter().zip(&chunk.values) {
-        at = probe::put(buffer, at, n.into(), value.into()).next;
+        at = probe::put(buffer, at, n, value.into()).next;
     }
+    &buffer[..at.div_ceil(8)]
 }
 
 fn rust_write(chunk: &Chunk) -> Vec<u8> {
     let mut writer = BitWriter::new();
-    for (&n, &value) in chunk.widths.iter().zip(&chunk.values) {
-        writer.write_bits(value, n.into());
-    }
+    chunk.widths.iter().zip(&chunk.values).for_each(|(&n, &value)| writer.write_bits(value, n));
     writer.finish()
-}
-
-/// A byte with a single 1 after another, each in a place of its own.
-fn sparse_bytes() -> Vec<u8> {
-    let random = &mut Random::new(2);
-    (0..CHUNK).map(|_| 1 << random.below(8)).collect()
 }
 
 /// The zeros before each 1, to the last one.
@@ -143,16 +126,14 @@ fn proved_prefixes(bytes: &[u8]) -> Vec<u32> {
 /// The same by the loop that the Rust has inside its codeword readers.
 fn rust_prefixes(bytes: &[u8]) -> Vec<u32> {
     let (mut prefixes, mut reader, mut zeros) = (Vec::with_capacity(bytes.len()), BitReader::new(bytes), 0);
-    loop {
-        match reader.read_bit() {
-            Err(_) => return prefixes,
-            Ok(0) => zeros += 1,
-            Ok(_) => {
-                prefixes.push(zeros);
-                zeros = 0;
-            }
+    while let Ok(bit) = reader.read_bit() {
+        zeros += 1;
+        if bit == 1 {
+            prefixes.push(zeros - 1);
+            zeros = 0;
         }
     }
+    prefixes
 }
 
 /// The bits read until data has ended, which it has after the last 1.

@@ -1,56 +1,33 @@
 #!/bin/sh
-# bench/count.sh: instructions of the coefficient coder, of whole slices and of alpha by valgrind's
-# cachegrind, as a ratio of the proved code to the Rust over its own bitstream.rs and over the plain bit
-# layer, and of the C face to the proved code. Unlike times they repeat, on a busy machine too; they are a
-# machine's own, and not its time. Needs target/bench/bench (bench/run.sh).
+# bench/count.sh PROGRAM: instructions of the coefficient coder, of slices and of alpha, a line for each race: those of
+# a round on each side, and the ratio of the first side to each other. Unlike times they repeat, on a busy machine too;
+# they are a machine's own, and not its time. PROGRAM is target/bench/bench or target/bench/against. PROGRAM.counts has
+# the same with tabs: race, side, instructions.
+#
+# valgrind's callgrind counts what runs within the function `counted`, and writes a file when that is left. So the n-th
+# file is that of the n-th name which the program prints.
 set -eu
 cd "$(dirname "$0")/.."
+[ $# -eq 1 ] || { echo "usage: bench/count.sh PROGRAM" >&2; exit 2; }
+rm -rf "$1.counts" "$1.count"
 command -v valgrind >/dev/null || { echo "count: valgrind is not here, so no instructions are counted"; exit; }
-[ -x target/bench/bench ] || { echo "count: target/bench/bench is missing; run bench/run.sh" >&2; exit 1; }
 
-# Instructions of a whole run.
-instructions() { # WORDS..
-    valgrind --tool=cachegrind --cache-sim=no --cachegrind-out-file=/dev/null target/bench/bench "$@" 2>&1 |
-        sed -n 's/.*I *refs: *//p' | tr -d ,
-}
-
-# Instructions of one round: what three rounds have more than one, halved, so that the start does not count.
-round() { # CODER WHAT SIDE
-    three=$(instructions 3 "$@")
-    one=$(instructions 1 "$@")
-    # a run that failed has no number
-    if [ "${three:-0}" -le "${one:-0}" ]; then
-        echo "count: valgrind counted nothing for $3 in '$2'" >&2
-        exit 1
-    fi
-    echo $(((three - one) / 2))
-}
-
-# A quotient with two digits behind the point, for a shell has none.
-ratio() { # A B
-    hundredths=$((($1 * 100 + $2 / 2) / $2))
-    printf '%d.%02d' $((hundredths / 100)) $((hundredths % 100))
-}
-
-# The races of a coder, one line each.
-count() { # CODER WHAT..
-    coder=$1
-    shift
-    for what in "$@"; do
-        # without the real slices there are no such races, which the benchmark itself has told
-        target/bench/bench 1 "$coder" "$what" proved >/dev/null 2>&1 || continue
-        proved=$(round "$coder" "$what" proved)
-        rust=$(round "$coder" "$what" rust)
-        plain=$(round "$coder" "$what" plain)
-        face=$(round "$coder" "$what" face)
-        echo "$what: instructions a round: proved $proved, Rust $rust, over plain bits $plain, C face $face;" \
-            "proved / Rust $(ratio "$proved" "$rust"), over plain bits $(ratio "$proved" "$plain"), C face / proved $(ratio "$face" "$proved")"
-    done
-}
-
-count coefficients 'decode real' 'decode dense' 'decode sparse' \
-    'encode real' 'encode real, room to the byte' 'encode dense' 'encode sparse'
-count whole_slices 'decode real slices' 'decode dense slices' 'decode sparse slices' \
-    'encode real slices' 'encode real slices, room to the byte' 'encode dense slices' 'encode sparse slices'
-count alpha 'decode real alpha' 'decode flat alpha' 'decode gradient alpha' 'decode noise alpha' \
-    'encode real alpha' 'encode real alpha, room to the byte' 'encode flat alpha' 'encode gradient alpha' 'encode noise alpha'
+mkdir "$1.count"
+for coder in coefficients slices alpha; do
+    files=$1.count/$coder
+    valgrind --tool=callgrind --toggle-collect=counted --dump-after=counted --callgrind-out-file="$files" \
+        "$1" count "$coder" >"$files.names" 2>"$files.log" || { cat "$files.log" >&2; exit 1; }
+    n=0
+    while IFS= read -r name; do
+        n=$((n + 1))
+        counted=$(sed -n 's/^summary: //p' "$files.$n")
+        # a round of which nothing was counted is no round
+        [ "${counted:-0}" -gt 0 ] || { echo "count: valgrind counted nothing for $name" >&2; exit 1; }
+        printf '%s\t%s\n' "$name" "$counted"
+    done <"$files.names" >>"$1.counts"
+done
+echo "instructions a round"
+LC_ALL=C awk -F '\t' '
+    $1 != race { printf "%s%-44s %s %d", race ? "\n" : "", $1, $2, $3; race = $1; first = $2; of = $3; next }
+    { printf ", %s %d, %s / it %.2f", $2, $3, first, of / $3 }
+    END { print "" }' "$1.counts"

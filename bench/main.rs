@@ -1,146 +1,139 @@
-// bench [ROUNDS [CODER [WHAT SIDE]]]: the proved code against the Rust over its own bitstream.rs, and where
-// told also over the plain bit layer and against itself over the C face, in one process.
+// bench [ROUNDS [CODER]]: times the proved code, as C calls it, against the Rust over its own bitstream.rs, and for the
+// coders also over the plain bit layer, in one process. The sides take turns, round after round, and the best round of
+// each counts, so that what else the machine does hits all alike. Before they are timed, all must give right answers.
 //
-// The sides take turns, round after round, and the best round of each counts, so that what else the
-// machine does hits all alike. Each coder has its file, which checks that all sides give equal answers
-// before it times them. With a coder its races alone are timed. With one of them and a side (proved, rust,
-// plain, face), that side alone runs, untimed: bench/count.sh counts its instructions.
-use std::cell::Cell;
+// bench count [CODER]: runs each side of each race once and prints its name, for bench/count.sh to count instructions.
+//
+// Compiled with --cfg against, the sides are today's archive and that of an earlier commit (bench/against).
 use std::time::Instant;
 
-// shared with the comparison, which uses more of them
-#[path = "../oracle/alpha_model.rs"]
-#[allow(dead_code)]
-mod alpha_model;
-#[path = "../compare/cart.rs"]
-mod cart;
-#[path = "../compare/cart_alpha.rs"]
-mod cart_alpha;
-#[path = "../compare/cart_bytes.rs"]
-#[allow(dead_code)]
-mod cart_bytes;
-#[path = "../compare/cart_slices.rs"]
-mod cart_slices;
-#[path = "../compare/json.rs"]
-#[allow(dead_code)]
-mod json;
-#[path = "../compare/lists.rs"]
-#[allow(dead_code)]
-mod lists;
-#[path = "../oracle/model.rs"]
-#[allow(dead_code)]
-mod model;
-#[path = "../compare/probe.rs"]
-#[allow(dead_code)]
-mod probe;
-#[path = "../compare/probe_alpha.rs"]
-mod probe_alpha;
-#[path = "../compare/probe_slices.rs"]
-#[allow(dead_code)]
-mod probe_slices;
-#[path = "../compare/random.rs"]
-#[allow(dead_code)]
-mod random;
-#[path = "../oracle/refusal.rs"]
-mod refusal;
-#[path = "../compare/samples.rs"]
-#[allow(dead_code)]
-mod samples;
-#[path = "../compare/shape.rs"]
-mod shape;
-#[path = "../oracle/slice_model.rs"]
-#[allow(dead_code)]
-mod slice_model;
-#[path = "../compare/slices.rs"]
-#[allow(dead_code)]
-mod slices;
+mod races;
 
 /// Makes the module of each coder known, and puts its `run` into the list.
 macro_rules! coders {
-    ($($name:ident)*) => {
-        $(mod $name;)*
-        const CODERS: &[(&str, fn(&Plan))] = &[$((stringify!($name), $name::run)),*];
+    ($($(#[$when:meta])? $name:ident)*) => {
+        $($(#[$when])? mod $name;)*
+        const CODERS: &[(&str, fn(&Plan))] = &[$($(#[$when])? (stringify!($name), $name::run)),*];
     };
 }
 
-// One line for each coder, whose benchmark is the file of that name.
+// One line for each coder, whose benchmark is the file of that name. The face of C does not have the bit layer.
 coders! {
-    bits
+    #[cfg(not(against))] bits
     coefficients
-    whole_slices
+    slices
     alpha
 }
 
-/// The sides of a race in their order; a race may have the first two alone.
-const SIDES: [&str; 4] = ["proved", "rust", "plain", "face"];
+/// Who takes part in a race.
+#[derive(Clone, Copy, PartialEq)]
+pub enum Side {
+    /// The proved code of today, and that of an earlier commit.
+    Proved,
+    Base,
+    /// The Rust over its own bits, and over plain ones.
+    Real,
+    Plain,
+}
 
+/// The sides of a coder's race.
+pub const SIDES: &[Side] =
+    if cfg!(against) { &[Side::Proved, Side::Base] } else { &[Side::Proved, Side::Real, Side::Plain] };
+
+impl Side {
+    fn name(self) -> &'static str {
+        match self {
+            Side::Proved => if cfg!(against) { "now" } else { "proved" },
+            Side::Base => "base",
+            Side::Real => "Rust",
+            Side::Plain => "Rust over plain bits",
+        }
+    }
+
+    /// Has the C face call the archive of this side. Tells whether that has a function, named as in C.
+    fn choose(self, _function: &str) -> bool {
+        #[cfg(against)]
+        {
+            extern "C" {
+                fn against_choose(base: bool, function: *const u8, len: usize) -> bool;
+            }
+            return unsafe { against_choose(self == Side::Base, _function.as_ptr(), _function.len()) };
+        }
+        #[cfg(not(against))]
+        true
+    }
+}
+
+/// How many rounds are timed; none where the instructions of one are counted.
 pub struct Plan {
-    rounds: u32,
-    /// A race and one side of it, if that is to run alone.
-    alone: Option<(String, usize)>,
-    /// Whether that race was there.
-    met: Cell<bool>,
+    rounds: Option<u32>,
 }
 
 impl Plan {
-    /// Times sides that do the same number of things, the proved code first, and prints the time of one
-    /// thing on each.
-    pub fn race(&self, what: &str, things: usize, sides: &mut [&mut dyn FnMut()]) {
-        if let Some((race, side)) = &self.alone {
-            if race == what {
-                self.met.set(true);
-                (0..self.rounds).for_each(|_| sides[*side]());
+    /// Races `sides`, which do so many things a round by a function of the C face. `right` tells whether a side's
+    /// answers are right, or its times would say nothing, and `run` is a round of it.
+    pub fn race(
+        &self, what: &str, function: &str, things: usize, sides: &[Side],
+        right: &dyn Fn(Side) -> bool, run: &mut dyn FnMut(Side),
+    ) {
+        for side in sides {
+            if !side.choose(function) {
+                return eprintln!("{}: left out, since {} has no {}", what, side.name(), function);
+            }
+            assert!(right(*side), "{}: the answers of {} are not right", what, side.name());
+        }
+        let Some(least) = self.rounds else {
+            for side in sides {
+                side.choose(function);
+                counted(run, *side);
+                println!("{}\t{}", what, side.name());
             }
             return;
-        }
+        };
         let mut best = vec![f64::MAX; sides.len()];
         let first = Instant::now();
         let mut rounds = 0;
         // a round of few milliseconds needs more of them to have one undisturbed
-        while rounds < self.rounds || first.elapsed().as_secs_f64() < 1.0 {
+        while rounds < least || first.elapsed().as_secs_f64() < 1.0 {
             rounds += 1;
-            for (best, side) in best.iter_mut().zip(sides.iter_mut()) {
+            for (best, side) in best.iter_mut().zip(sides) {
+                side.choose(function);
                 let began = Instant::now();
-                side();
+                run(*side);
                 *best = best.min(began.elapsed().as_secs_f64());
             }
         }
         let each = 1e9 / things as f64;
-        print!("{:44} proved {:7.2} ns", what, best[0] * each);
-        for (name, time) in ["Rust", "Rust over plain bits", "C face"].iter().zip(&best[1..]) {
-            print!(", {} {:7.2} ns, proved / it {:.2}", name, time * each, best[0] / time);
+        print!("{:44} {} {:7.2} ns", what, sides[0].name(), best[0] * each);
+        for (side, time) in sides.iter().zip(&best).skip(1) {
+            print!(", {} {:7.2} ns, {} / it {:.2}", side.name(), time * each, sides[0].name(), best[0] / time);
         }
         println!();
     }
 }
 
+/// The round that is counted, under a name that valgrind can be told.
+#[no_mangle]
+#[inline(never)]
+fn counted(run: &mut dyn FnMut(Side), side: Side) {
+    run(side);
+}
+
 fn main() {
     let words: Vec<String> = std::env::args().skip(1).collect();
-    let usage = || -> ! {
-        eprintln!("usage: bench [ROUNDS [CODER [WHAT SIDE]]], SIDE proved, rust, plain or face");
+    let rounds = match words.first().map(String::as_str) {
+        None => Some(Some(7)),
+        Some("count") => Some(None),
+        Some(word) => word.parse().ok().map(Some),
+    };
+    let asked = |name| words.get(1).map_or(true, |word| word == name);
+    let coders: Vec<_> = CODERS.iter().filter(|(name, _)| asked(name)).collect();
+    let (Some(rounds), false, 0..=2) = (rounds, coders.is_empty(), words.len()) else {
+        eprintln!("usage: bench [ROUNDS | count [CODER]]");
         std::process::exit(2);
     };
-    let rounds = words.first().map_or(Ok(7), |word| word.parse()).unwrap_or_else(|_| usage());
-    let (coder, alone) = match words.len() {
-        0 | 1 => (None, None),
-        2 => (Some(&words[1]), None),
-        4 => {
-            let side = SIDES.iter().position(|side| *side == words[3]).unwrap_or_else(|| usage());
-            (Some(&words[1]), Some((words[2].clone(), side)))
-        }
-        _ => usage(),
-    };
-    let plan = Plan { rounds, alone, met: Cell::new(false) };
-    if plan.alone.is_none() {
+    if let Some(rounds) = rounds {
         println!("best of {} rounds, or of as many as a second takes, taking turns", rounds);
     }
-    for (name, run) in CODERS {
-        if coder.map_or(true, |coder| coder == name) {
-            run(&plan);
-        }
-    }
-    if plan.alone.is_some() && !plan.met.get() {
-        eprintln!("bench: there is no such race");
-        std::process::exit(2);
-    }
+    coders.iter().for_each(|(_, run)| run(&Plan { rounds }));
 }

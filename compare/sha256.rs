@@ -18,7 +18,7 @@ pub fn sha256(bytes: &[u8]) -> String {
     padded.extend((8 * bytes.len() as u64).to_be_bytes());
 
     for block in padded.chunks(64) {
-        let mut w: Vec<u32> = block.chunks(4).map(|word| u32::from_be_bytes(word.try_into().expect("4 bytes"))).collect();
+        let mut w: Vec<u32> = block.chunks(4).map(|word| u32::from_be_bytes(word.try_into().expect("four"))).collect();
         for i in 16..64 {
             let s0 = w[i - 15].rotate_right(7) ^ w[i - 15].rotate_right(18) ^ (w[i - 15] >> 3);
             let s1 = w[i - 2].rotate_right(17) ^ w[i - 2].rotate_right(19) ^ (w[i - 2] >> 10);

@@ -1,41 +1,8 @@
 #include "slices.h"
 
-#include <stdio.h>
-#include <stdlib.h>
 #include <string.h>
 
 static const char magic[] = "slices1\n";
-
-void fail(const char *why)
-{
-    fprintf(stderr, "%s\n", why);
-    exit(2);
-}
-
-/* The whole file, since payloads are decoded where they lie. It is kept until the program ends. */
-static struct bytes read_file(const char *path)
-{
-    uint8_t *at = NULL;
-    size_t len = 0, room = 0;
-    FILE *file = fopen(path, "rb");
-    if (!file)
-        fail("the file of slices cannot be opened");
-    for (;;) {
-        if (len == room) {
-            room = room ? 2 * room : 1 << 16;
-            if (!(at = realloc(at, room)))
-                fail("no memory for the file of slices");
-        }
-        size_t got = fread(at + len, 1, room - len, file);
-        if (got == 0)
-            break;
-        len += got;
-    }
-    if (ferror(file))
-        fail("the file of slices cannot be read");
-    fclose(file);
-    return (struct bytes){at, len};
-}
 
 static struct bytes take(struct bytes *rest, size_t len)
 {

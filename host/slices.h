@@ -2,23 +2,15 @@
 #ifndef SLICES_H
 #define SLICES_H
 
-#include <stdbool.h>
-#include <stddef.h>
-#include <stdint.h>
+#include "bytes.h"
 
-struct bytes {
-    const uint8_t *at;
-    size_t len;
-};
+#include <stdbool.h>
 
 /* The numbers are as the file has them: nothing is known of them but that the payloads lie in the file. */
 struct slice {
     uint32_t id, macroblocks, chroma, scan, kind, samples;
     struct bytes y, cb, cr, alpha;
 };
-
-/* Says why, and ends the program with status 2. */
-void fail(const char *why);
 
 /* The file's slices. */
 struct bytes slices_open(const char *path);

@@ -3,12 +3,13 @@
 #
 #   the header     under each compiler at hand, as C99 and as C++11
 #   face           every function of the face at every limit
+#   replay         the stored cases, which the oracle answered; and this program itself
 #   recode         the real slices: held to what is known of them, and written back
 #   the documents  the examples of docs/HANDBOOK.md, and the program of README.md
 #
-# face and recode run a second time with the compiler's checks, where it has them. The real slices are in
-# ../shared/vectors, or where MUONSATREY_VECTORS says. A part that cannot run has failed. The last line is
-# 'N passed, M failed', and the exit status is 0 only where M is 0.
+# face, replay and recode run a second time with the compiler's checks, where it has them. The real slices are in
+# ../shared/vectors, or where MUONSATREY_VECTORS says. No part needs Rust. A part that cannot run has failed. The
+# last line is 'N passed, M failed', and the exit status is 0 only where M is 0.
 set -u
 cd "$(dirname "$0")/.." || exit 1
 vectors=${MUONSATREY_VECTORS:-../shared/vectors}/real-slices.jsonl
@@ -39,6 +40,10 @@ header() { # COMPILER..
     "$@" -o target/host/header host/header.c -x none target/dist/lib/libcart.a && target/host/header
 }
 
+replay() { # PROGRAM
+    "$1" cases/stored/cases.txt cases/stored/answers.txt
+}
+
 recode() { # PROGRAM
     [ -f "$vectors" ] || { echo "there is no $vectors; name another folder with MUONSATREY_VECTORS"; return 1; }
     host/pack.py "$vectors" target/host/real.slices || return 1
@@ -53,7 +58,7 @@ first() {
 # Whether programs can be built and run with the compiler's checks. They are not made for an emulator.
 can_check() {
     [ "$(uname -m)" = x86_64 ] && echo 'int main(void) { return 0; }' >target/host/empty.c &&
-        "${CC:-cc}" -fsanitize=address,undefined -o target/host/empty target/host/empty.c && target/host/empty
+        ${CC:-cc} -fsanitize=address,undefined -o target/host/empty target/host/empty.c && target/host/empty
 }
 
 part 'library' make lib
@@ -67,12 +72,16 @@ for compiler in g++ clang++; do
 done
 part 'programs' host/build.sh
 part 'face' target/host/face
+part 'replay itself' host/replay/test.sh target/host/replay
+part 'stored cases' replay target/host/replay
 part 'real slices' recode target/host/recode
 if can_check; then
     # memory that a program keeps until it ends is no fault
     export ASAN_OPTIONS=detect_leaks=0
-    part 'programs, checked' host/build.sh face_checked recode_checked
+    part 'programs, checked' host/build.sh face_checked recode_checked replay_checked
     part 'face, checked' target/host/face_checked
+    part 'replay itself, checked' host/replay/test.sh target/host/replay_checked
+    part 'stored cases, checked' replay target/host/replay_checked
     part 'real slices, checked' recode target/host/recode_checked
 else
     echo "host: not run with the compiler's checks, which it does not have here"

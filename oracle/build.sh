@@ -10,6 +10,7 @@
 # side by side. Plain rustc: no cargo, no other crate.
 set -eu
 cd "$(dirname "$0")/.."
+rustc=$(tools/rustc.sh)
 
 given=${MUONSATREY_RUST:-../shared/docs/src}
 name_another='name another folder with the environment variable MUONSATREY_RUST'
@@ -41,10 +42,10 @@ build() { # KIND FORM
     real) take bitstream.rs "$source" ;;
     *) fail "the kind is plain or real, not $kind" ;;
     esac
-    cp oracle/lib.rs "$source/lib.rs"
+    cp oracle/lib.rs oracle/asked.rs oracle/layer.rs "$source"
     # the lints are capped because the given files are not ours to tidy
     # shellcheck disable=SC2086
-    "${RUSTC:-rustc}" --edition 2021 --crate-type rlib --crate-name "oracle_$kind" --cap-lints allow \
+    "$rustc" --edition 2021 --crate-type rlib --crate-name "oracle_$kind" --cap-lints allow \
         -C opt-level=3 -C codegen-units=1 $flags -o "$result" "$source/lib.rs"
     echo "oracle: $result"
 }

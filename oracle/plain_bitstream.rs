@@ -67,10 +67,6 @@ impl<'a> BitReader<'a> {
         self.at >= self.behind_last_one
     }
 
-    pub fn byte_pos(&self) -> usize {
-        (self.at + 7) / 8
-    }
-
     pub fn bit_pos(&self) -> usize {
         self.at
     }

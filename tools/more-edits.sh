@@ -4,7 +4,7 @@
 # Naming a crate tries those of the crates below it too.
 set -eu
 cd "$(dirname "$0")/.."
-room=$(mktemp -d)
+room=$(mktemp -d) || room=$(TMPDIR=/tmp mktemp -d)
 trap 'rm -rf "$room"' EXIT
 cp -r crates crates.txt "$room"
 # what is proved already need not be proved again

@@ -8,17 +8,17 @@ static uint8_t code[CART_ALPHA_CODE_LEN(CART_ALPHA_16, CART_MAX_SAMPLES)], paylo
 static uint64_t there_and_back(uint64_t kind, size_t n)
 {
     struct encoded e = encode_alpha(kind, samples, n, CART_ALPHA_CODE_LEN(kind, n));
-    uint64_t bytes = e.bytes, bits = e.bits;
+    uint64_t bytes = e.bytes[0], bits = e.bits[0];
     EXPECT(e.result == CART_DONE && bits <= CART_ALPHA_CODE_BITS(kind, n));
     memcpy(code, e.code, bytes);
     e = encode_alpha(kind, samples, n, bytes);
-    EXPECT(e.result == CART_DONE && e.bytes == bytes && e.bits == bits && memcmp(e.code, code, bytes) == 0);
+    EXPECT(e.result == CART_DONE && e.bytes[0] == bytes && e.bits[0] == bits && memcmp(e.code, code, bytes) == 0);
     if (bytes > 0) {
         e = encode_alpha(kind, samples, n, bytes - 1);
-        EXPECT(e.result == CART_ROOM && e.bytes == bytes);
+        EXPECT(e.result == CART_ROOM && e.needed == bytes);
     }
     struct decoded d = decode_alpha(kind, code, bytes, n);
-    EXPECT(d.result == CART_DONE && d.bits == bits && memcmp(d.list, samples, n * sizeof *samples) == 0);
+    EXPECT(d.result == CART_DONE && d.bits[0] == bits && memcmp(d.list, samples, n * sizeof *samples) == 0);
     return bits;
 }
 

@@ -41,13 +41,13 @@ static void test_rows(void)
                 list_put(list, rows[i].set[k].place, rows[i].set[k].value);
         for (uint64_t room = 0; room < rows[i].bytes; room++) {
             struct encoded e = encode(rows[i].blocks, list, len, room);
-            EXPECT(e.result == CART_ROOM && e.bytes == rows[i].bytes);
+            EXPECT(e.result == CART_ROOM && e.needed == rows[i].bytes);
         }
         struct encoded e = encode(rows[i].blocks, list, len, rows[i].bytes);
-        EXPECT(e.result == CART_DONE && e.bytes == rows[i].bytes && e.bits == rows[i].bits);
+        EXPECT(e.result == CART_DONE && e.bytes[0] == rows[i].bytes && e.bits[0] == rows[i].bits);
         EXPECT(memcmp(e.code, rows[i].code, rows[i].bytes) == 0);
         struct decoded d = decode(rows[i].blocks, rows[i].code, rows[i].bytes, len);
-        EXPECT(d.result == CART_DONE && d.bits == rows[i].bits && memcmp(d.list, list, len) == 0);
+        EXPECT(d.result == CART_DONE && d.bits[0] == rows[i].bits && memcmp(d.list, list, len) == 0);
     }
 }
 
@@ -82,17 +82,17 @@ static void there_and_back(uint64_t blocks, unsigned b)
 {
     size_t len = CART_COEFFS_LEN(blocks);
     struct encoded e = encode(blocks, list, len, CART_CODE_LEN(blocks, b));
-    uint64_t bytes = e.bytes, bits = e.bits;
+    uint64_t bytes = e.bytes[0], bits = e.bits[0];
     EXPECT(e.result == CART_DONE);
     memcpy(code, e.code, bytes);
     e = encode(blocks, list, len, bytes);
-    EXPECT(e.result == CART_DONE && e.bytes == bytes && e.bits == bits && memcmp(e.code, code, bytes) == 0);
+    EXPECT(e.result == CART_DONE && e.bytes[0] == bytes && e.bits[0] == bits && memcmp(e.code, code, bytes) == 0);
     if (bytes > 0) {
         e = encode(blocks, list, len, bytes - 1);
-        EXPECT(e.result == CART_ROOM && e.bytes == bytes);
+        EXPECT(e.result == CART_ROOM && e.needed == bytes);
     }
     struct decoded d = decode(blocks, code, bytes, len);
-    EXPECT(d.result == CART_DONE && d.bits == bits && memcmp(d.list, list, len) == 0);
+    EXPECT(d.result == CART_DONE && d.bits[0] == bits && memcmp(d.list, list, len) == 0);
 }
 
 static void test_every_count(void)
@@ -101,7 +101,7 @@ static void test_every_count(void)
         size_t len = CART_COEFFS_LEN(blocks);
         about("coefficients, %d blocks", (int)blocks);
         memset(list, 0, sizeof list);
-        EXPECT(encode(blocks, list, len, 5).bits == zero_bits(blocks));
+        EXPECT(encode(blocks, list, len, 5).bits[0] == zero_bits(blocks));
         there_and_back(blocks, 0);
         for (unsigned b = 0; b <= 29; b += 1 + any_number() % 4) {
             any_coefficients(list, len / 4, b);
@@ -128,16 +128,16 @@ static void test_limits(void)
     /* the longest payload, and one more; no blocks read nothing of either */
     payload[0] = 0x80;
     EXPECT(decode(1, payload, CART_MAX_PAYLOAD, 256).result == CART_DONE);
-    EXPECT(decode(1, payload, CART_MAX_PAYLOAD, 256).bits == 6);
+    EXPECT(decode(1, payload, CART_MAX_PAYLOAD, 256).bits[0] == 6);
     EXPECT(decode(1, payload, CART_MAX_PAYLOAD + 1, 256).result == CART_LIMIT);
     EXPECT(decode(0, payload, CART_MAX_PAYLOAD, 0).result == CART_DONE);
-    EXPECT(decode(0, payload, CART_MAX_PAYLOAD, 0).bits == 0);
+    EXPECT(decode(0, payload, CART_MAX_PAYLOAD, 0).bits[0] == 0);
     EXPECT(decode(0, payload, CART_MAX_PAYLOAD + 1, 0).result == CART_LIMIT);
     EXPECT(decode(0, NULL, 0, 0).result == CART_DONE);
     EXPECT(encode(0, NULL, 0, 0).result == CART_DONE);
 
     /* zero bytes behind a code are not read, however many: where the Rust's own bit layer differs */
-    EXPECT(decode(1, payload, 5, 256).bits == 6);
+    EXPECT(decode(1, payload, 5, 256).bits[0] == 6);
 }
 
 static void test_lengths(void)

@@ -22,7 +22,7 @@ static void test_component(struct shape s, const uint8_t *list, size_t per, size
     EXPECT(in_place == 64 * all);
 }
 
-static void test_shape(struct shape s)
+void test_slice_scan(struct shape s)
 {
     size_t c = s.chroma == CART_422 ? 2 : 4, per = 4 + 2 * c, len = CART_SLICE_LEN(s.macroblocks, s.chroma);
     const size_t first[3] = {0, 4, 4 + c}, count[3] = {4, c, c};
@@ -32,25 +32,17 @@ static void test_shape(struct shape s)
         scan_of[i] = -1;
     for (size_t i = 0; i < len / 4; i++)
         list_put(blocks, i, (int32_t)i + 1);
-    struct encoded_slice e = encode_slice(s, blocks, len, sizeof code);
+    struct encoded e = encode_slice(s, blocks, len, sizeof code);
     memcpy(code, e.code, sizeof code);
     const uint8_t *from = code;
     for (int i = 0; i < 3; i++) {
         uint64_t all = s.macroblocks * count[i];
         struct decoded d = decode(all, from, e.bytes[i], CART_COEFFS_LEN(all));
-        EXPECT(d.result == CART_DONE && d.bits == e.bits[i]);
+        EXPECT(d.result == CART_DONE && d.bits[0] == e.bits[i]);
         test_component(s, d.list, per, first[i], count[i], scan_of);
         from += e.bytes[i];
     }
     EXPECT(scan_of[0] == 0 && scan_of[63] == 63);
     EXPECT(scan_of[1] == (s.scan == CART_PROGRESSIVE ? 1 : 2));
     EXPECT(scan_of[8] == (s.scan == CART_PROGRESSIVE ? 2 : 1));
-}
-
-void test_slice_scan(void)
-{
-    for (uint64_t macroblocks = 1; macroblocks <= CART_MAX_MACROBLOCKS; macroblocks++)
-        for (uint64_t chroma = CART_422; chroma <= CART_444; chroma++)
-            for (uint64_t scan = CART_PROGRESSIVE; scan <= CART_INTERLACED; scan++)
-                test_shape((struct shape){macroblocks, chroma, scan});
 }

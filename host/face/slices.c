@@ -5,33 +5,29 @@ enum { MOST = CART_MAX_COEFFICIENT, LONGEST = CART_SLICE_LEN(CART_MAX_MACROBLOCK
 
 static uint8_t blocks[LONGEST + 256], code[CART_SLICE_CODE_LEN(CART_MAX_MACROBLOCKS, CART_444, 29)];
 static uint8_t zeros[CART_MAX_PAYLOAD + 1];
+static const struct bytes none[3];
 
 static size_t slice_len(struct shape s)
 {
     return CART_SLICE_LEN(s.macroblocks, s.chroma);
 }
 
-static size_t code_len(struct shape s, unsigned b)
-{
-    return CART_SLICE_CODE_LEN(s.macroblocks, s.chroma, b);
-}
-
 /* Encodes the blocks with room for any, with just enough and with a byte less, and decodes the code. */
-static struct encoded_slice there_and_back(struct shape s, unsigned b)
+static struct encoded there_and_back(struct shape s, unsigned b)
 {
     size_t len = slice_len(s);
-    struct encoded_slice first = encode_slice(s, blocks, len, code_len(s, b));
+    struct encoded first = encode_slice(s, blocks, len, CART_SLICE_CODE_LEN(s.macroblocks, s.chroma, b));
     uint64_t bytes = first.bytes[0] + first.bytes[1] + first.bytes[2];
     EXPECT(first.result == CART_DONE);
     memcpy(code, first.code, bytes);
-    struct encoded_slice e = encode_slice(s, blocks, len, bytes);
+    struct encoded e = encode_slice(s, blocks, len, bytes);
     EXPECT(e.result == CART_DONE && memcmp(e.bits, first.bits, sizeof e.bits) == 0 && memcmp(e.code, code, bytes) == 0);
     e = encode_slice(s, blocks, len, bytes - 1);
     EXPECT(e.result == CART_ROOM && e.needed == bytes);
     const uint8_t *cb = code + first.bytes[0], *cr = cb + first.bytes[1];
-    struct decoded_slice d =
-        decode_slice(s, (struct payload[]){{code, first.bytes[0]}, {cb, first.bytes[1]}, {cr, first.bytes[2]}}, len);
-    EXPECT(d.result == CART_DONE && memcmp(d.bits, first.bits, sizeof d.bits) == 0 && memcmp(d.blocks, blocks, len) == 0);
+    struct decoded d =
+        decode_slice(s, (struct bytes[]){{code, first.bytes[0]}, {cb, first.bytes[1]}, {cr, first.bytes[2]}}, len);
+    EXPECT(d.result == CART_DONE && memcmp(d.bits, first.bits, sizeof d.bits) == 0 && memcmp(d.list, blocks, len) == 0);
     return first;
 }
 
@@ -41,7 +37,7 @@ static void test_shape(struct shape s)
     size_t len = slice_len(s);
     about("slices, %d macroblocks, chroma %d, scan %d", (int)s.macroblocks, (int)s.chroma, (int)s.scan);
     memset(blocks, 0, sizeof blocks);
-    struct encoded_slice e = there_and_back(s, 0);
+    struct encoded e = there_and_back(s, 0);
     EXPECT(e.bits[0] == zero_bits(4 * s.macroblocks));
     EXPECT(e.bits[1] == zero_bits(chroma_blocks) && e.bits[2] == zero_bits(chroma_blocks));
     for (unsigned b = 0; b <= 29; b += 1 + any_number() % 6) {
@@ -54,7 +50,6 @@ static void test_shape(struct shape s)
 
     /* lengths: a byte, a coefficient, a block more or less; coefficients in place of bytes; the other format's */
     memset(blocks, 0, sizeof blocks);
-    const struct payload none[3] = {{NULL, 0}, {NULL, 0}, {NULL, 0}};
     const size_t other = slice_len((struct shape){s.macroblocks, s.chroma == CART_422 ? CART_444 : CART_422, s.scan});
     const size_t wrong[] = {len + 1, len - 1, len + 4, len - 4, len + 256, len - 256, len / 4, other, 0};
     for (size_t i = 0; i < sizeof wrong / sizeof *wrong; i++) {
@@ -68,7 +63,6 @@ static void test_selectors_and_limits(void)
     static const uint64_t no_chroma[] = {0, 1, 4, UINT64_C(1) << 32 | 2, UINT64_MAX};
     static const uint64_t no_scan[] = {2, 3, UINT64_C(1) << 32, UINT64_MAX};
     static const uint64_t no_macroblocks[] = {0, 9, UINT64_C(1) << 53, UINT64_C(1) << 56, UINT64_C(1) << 63, UINT64_MAX};
-    const struct payload none[3] = {{NULL, 0}, {NULL, 0}, {NULL, 0}};
     about("slices, selectors and limits");
     memset(blocks, 0, sizeof blocks);
     for (size_t i = 0; i < sizeof no_chroma / sizeof *no_chroma; i++) {
@@ -108,8 +102,7 @@ static void test_range(void)
 
 static void test_order(void)
 {
-    static const struct payload none[3] = {{NULL, 0}, {NULL, 0}, {NULL, 0}};
-    const struct payload too_long[3] = {{zeros, sizeof zeros}, {NULL, 0}, {NULL, 0}};
+    const struct bytes too_long[3] = {{zeros, sizeof zeros}, {NULL, 0}, {NULL, 0}};
     about("slices, order of refusals");
     memset(blocks, 0x7f, sizeof blocks);
     EXPECT(encode_slice((struct shape){9, 4, 2}, blocks, 1, 0).result == CART_SELECTOR);
@@ -139,18 +132,18 @@ static void test_refused_payloads(void)
     /* in 4:4:4 every component of a macroblock has 4 blocks */
     const struct shape s = {1, CART_444, 0};
     static const uint8_t zero[] = {0x82, 0x30};
-    const struct payload good = {zero, sizeof zero};
-    EXPECT(decode_slice(s, (struct payload[]){good, good, good}, slice_len(s)).result == CART_DONE);
+    const struct bytes good = {zero, sizeof zero};
+    EXPECT(decode_slice(s, (struct bytes[]){good, good, good}, slice_len(s)).result == CART_DONE);
     for (size_t i = 0; i < sizeof refused / sizeof *refused; i++)
         for (uint64_t component = CART_Y; component <= CART_CR; component++) {
-            struct payload p[3] = {good, good, good};
+            struct bytes p[3] = {good, good, good};
             about("slices, refused payload %zu in component %d", i, (int)component);
-            p[component - 1] = (struct payload){refused[i].payload, refused[i].len};
-            struct decoded_slice d = decode_slice(s, p, slice_len(s));
+            p[component - 1] = (struct bytes){refused[i].payload, refused[i].len};
+            struct decoded d = decode_slice(s, p, slice_len(s));
             EXPECT(d.result == refused[i].refusal && d.component == component);
             /* bad components after it change nothing: the first one is named */
             for (uint64_t after = component; after < CART_CR; after++)
-                p[after] = (struct payload){zeros, 5};
+                p[after] = (struct bytes){zeros, 5};
             d = decode_slice(s, p, slice_len(s));
             EXPECT(d.result == refused[i].refusal && d.component == component);
         }
@@ -161,8 +154,8 @@ static void test_long_payloads(void)
     static uint8_t y[CART_MAX_PAYLOAD + 1] = {0x82, 0x30}, c[CART_MAX_PAYLOAD + 1] = {0x82, 0x00};
     const struct shape s = {1, CART_422, 0};
     about("slices, the longest payloads");
-    struct payload p[3] = {{y, CART_MAX_PAYLOAD}, {c, CART_MAX_PAYLOAD}, {c, CART_MAX_PAYLOAD}};
-    struct decoded_slice d = decode_slice(s, p, 2048);
+    struct bytes p[3] = {{y, CART_MAX_PAYLOAD}, {c, CART_MAX_PAYLOAD}, {c, CART_MAX_PAYLOAD}};
+    struct decoded d = decode_slice(s, p, 2048);
     EXPECT(d.result == CART_DONE && d.bits[0] == 12 && d.bits[1] == 10 && d.bits[2] == 10);
     for (int i = 0; i < 3; i++) {
         p[i].len = CART_MAX_PAYLOAD + 1;
@@ -175,8 +168,10 @@ void test_slices(void)
 {
     for (uint64_t macroblocks = 1; macroblocks <= CART_MAX_MACROBLOCKS; macroblocks++)
         for (uint64_t chroma = CART_422; chroma <= CART_444; chroma++)
-            for (uint64_t scan = CART_PROGRESSIVE; scan <= CART_INTERLACED; scan++)
+            for (uint64_t scan = CART_PROGRESSIVE; scan <= CART_INTERLACED; scan++) {
                 test_shape((struct shape){macroblocks, chroma, scan});
+                test_slice_scan((struct shape){macroblocks, chroma, scan});
+            }
     test_selectors_and_limits();
     test_range();
     test_order();

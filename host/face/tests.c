@@ -26,7 +26,6 @@ int main(void)
     expect_begin();
     test_coefficients();
     test_slices();
-    test_slice_scan();
     test_alpha();
     test_matrices();
     test_threads();

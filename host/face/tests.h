@@ -2,16 +2,16 @@
 #ifndef TESTS_H
 #define TESTS_H
 
+#include "../guarded/calls.h"
+#include "../guarded/expect.h"
+#include "../guarded/met.h"
 #include "../lists.h"
-#include "calls.h"
-#include "expect.h"
-#include "met.h"
 
 #include <string.h>
 
 void test_coefficients(void);
 void test_slices(void);
-void test_slice_scan(void);
+void test_slice_scan(struct shape s);
 void test_alpha(void);
 void test_matrices(void);
 void test_threads(void);

@@ -1,69 +1,68 @@
--- Where a reading stands between two pairs of a difference and a run: the outcome from here is the outcome from the start. `Stands` is the loop's
--- invariant, and its proof cites the laws below alone.
+-- Where a reading stands between two pairs of a difference and a run. `AlphaStands` is the loop's invariant, and its proof cites the laws below and
+-- those of answers alone.
 -- Assumes nothing.
 use Prim.Native.Nat.{ℕ, _+_, _-_, _≤_, _<_}
 use native.Mathlib.Numerals.{add-one}
 use native.Mathlib.Omega.{arith}
-use mathlib.Core.Path.{_≡_, refl, sym, ap, ap₂, _∙_, subst}
-use mathlib.Core.Bool.{Bool, true, false, cond}
+use mathlib.Core.Path.{_≡_, refl, sym, ap, ap₂, _∙_}
+use mathlib.Core.Bool.{Bool}
 use mathlib.Core.List.{List, [], _++_, append-nil, append-assoc}
-use lib.Dec.{ltb}
 use lib.IntN.{ℤ, pos, negsuc}
 use lib.ListN.{length, replicate, take, drop, length-append, length-drop, length-replicate}
 use lib.Seq.{take-at, take-all, length-take-le}
 use borrow.Author.Tests.{ne-eqb}
 use Rattle.common.proofs.Choices.{cond-no}
-use Rattle.bitstream.specs.Bits.{ended}
-use Rattle.bitstream.specs.Machine.{accepted, rejected, from}
-use Rattle.bitstream.specs.Told.{numberOf}
-use Rattle.bitstream.specs.declared.Refusal.{Refusal}
-use Rattle.bitstream.specs.declared.Refusal.the-variants.{Tail, Padding}
-use Rattle.bitstream.specs.declared.Reached.the-variants.{At, No as Stopped}
-use Rattle.elements.specs.Answers.{read, refuse}
-use Rattle.samples.specs.declared.AlphaChannelType.{AlphaChannelType}
-use Rattle.samples.specs.Values.{previousOf}
-use Rattle.samples.specs.Decoding.{State, difference, run, differenceStep, runStep, step, finish, decode}
-use Rattle.samples.specs.Answers.{alphaDecoding, settled}
-use Rattle.samples.proofs.Unique.{start-unique}
-use Rattle.samples.proofs.StepLaws.{step-end, from-moved, from-stop, from-refused}
-use Rattle.alpha_reading.specs.Steps.{differenceDue, SampleStepped, runDue, RunStepped, fromDifference, PairOn, PairStepped, Stands, endOf, reachedSays}
+use Rattle.answers.specs.Refusals.{numberOf}
+use Rattle.answers.specs.Machine.{from}
+use Rattle.answers.specs.Answers.{read, decoding, settled}
+use Rattle.answers.specs.Told.{reachedSays}
+use Rattle.answers.specs.declared.Refusal.{Refusal}
+use Rattle.answers.specs.declared.Reached.{Reached}
+use Rattle.answers.specs.declared.Reached.the-variants.{At, No as Stopped}
+use Rattle.answers.proofs.StandLaws.{rejects-settled, stands-on, stands-rejects, stands-accepts}
+use Rattle.alpha_elements.specs.declared.AlphaChannelType.{AlphaChannelType}
+use Rattle.alpha_elements.specs.Values.{previousOf}
+use Rattle.alpha_elements.specs.Decoding.{difference, alphaRun, differenceStep, runStep, alphaStep, alphaFinish, decodeAlpha}
+use Rattle.alpha_elements.proofs.Unique.{start-unique}
+use Rattle.alpha_elements.proofs.StepLaws.{step-end, from-moved, from-stop, from-refused}
+use Rattle.alpha_reading.specs.Steps.{differenceDue, SampleStepped, runDue, AlphaRunStepped, fromDifference, PairOn, AlphaPairStepped, AlphaStands, AlphaEnds}
 use Rattle.alpha_reading.specs.declared.SampleStep.the-variants.{To, No}
-use Rattle.alpha_reading.specs.declared.RunStep.the-variants.{To as RunTo, No as NoRun}
+use Rattle.alpha_reading.specs.declared.AlphaRunStep.the-variants.{To as RunTo, No as NoRun}
 use Rattle.alpha_reading.specs.declared.Alphas.{Alphas}
 use Rattle.alpha_reading.specs.declared.PairStep.the-variants.{To as PairTo, No as NoPair}
 
 -- ---- a difference and its run
 
-difference-due : (k : AlphaChannelType) (left : ℕ) (p : ℤ) (bs : List Bool) → 0 < left → step k (difference left p) bs ≡ differenceStep k left p bs
-unfolding step
+difference-due : (k : AlphaChannelType) (left : ℕ) (p : ℤ) (bs : List Bool) → 0 < left → alphaStep k (difference left p) bs ≡ differenceStep k left p bs
+unfolding alphaStep
 difference-due k left p bs h = cond-no _ _ (ne-eqb left 0 (λ e. omega arith))
 
-run-due : (k : AlphaChannelType) (left v : ℕ) (bs : List Bool) → step k (run left v) bs ≡ runStep left v bs
-unfolding step
+run-due : (k : AlphaChannelType) (left v : ℕ) (bs : List Bool) → alphaStep k (alphaRun left v) bs ≡ runStep left v bs
+unfolding alphaStep
 run-due k left v bs = refl
 
 module _ (B : List Bool) (k : AlphaChannelType) (total : ℕ) (s : Alphas) (room : s .place < total) where
-  due : step k (difference (total - s .place) (previousOf (s .prev))) (drop (s .at) B) ≡ differenceDue k (s .prev) (s .at) B (total - s .place)
+  due : alphaStep k (difference (total - s .place) (previousOf (s .prev))) (drop (s .at) B) ≡ differenceDue k (s .prev) (s .at) B (total - s .place)
   due = difference-due k (total - s .place) (previousOf (s .prev)) (drop (s .at) B) (omega arith)
 
-  pub pair-no : (why : Refusal) → SampleStepped B k (differenceDue k (s .prev) (s .at)) (No why) → PairStepped B k total s (NoPair why)
+  pub pair-no : (why : Refusal) → SampleStepped B k (differenceDue k (s .prev) (s .at)) (No why) → AlphaPairStepped B k total s (NoPair why)
   pair-no why d = λ out. record { bits = drop (s .at) B; is = from-refused k _ out (drop (s .at) B) (numberOf why) (due ∙ d .is (total - s .place)) }
 
   module _ (v at : ℕ) (d : SampleStepped B k (differenceDue k (s .prev) (s .at)) (To v at)) where
-    on-sample : (out : List ℕ) → fromDifference B k total s out ≡ from (step k) finish (run (total - s .place) v) out (drop at B)
+    on-sample : (out : List ℕ) → fromDifference B k total s out ≡ from (alphaStep k) alphaFinish (alphaRun (total - s .place) v) out (drop at B)
     on-sample out =
         from-moved k _ out (drop (s .at) B) _ _ _ (due ∙ d .is (total - s .place))
-        ∙ ap (λ (l : List ℕ). from (step k) finish (run (total - s .place) v) l (drop at B)) (append-nil out)
+        ∙ ap (λ (l : List ℕ). from (alphaStep k) alphaFinish (alphaRun (total - s .place) v) l (drop at B)) (append-nil out)
 
-    pub pair-run-no : (why : Refusal) → RunStepped B (total - s .place) (runDue (total - s .place) at) (NoRun why) → PairStepped B k total s (NoPair why)
+    pub pair-run-no : (why : Refusal) → AlphaRunStepped B (total - s .place) (runDue (total - s .place) at) (NoRun why) → AlphaPairStepped B k total s (NoPair why)
     pair-run-no why r = λ out.
         record {
           bits = drop at B;
           is = on-sample out ∙ from-refused k _ out (drop at B) (numberOf why) (run-due k (total - s .place) v (drop at B) ∙ r .is v);
         }
 
-    pub pair-on : (n behind : ℕ) → RunStepped B (total - s .place) (runDue (total - s .place) at) (RunTo n behind)
-        → PairStepped B k total s (PairTo v (record { at = behind; place = s .place + n; prev = v + 1 }))
+    pub pair-on : (n behind : ℕ) → AlphaRunStepped B (total - s .place) (runDue (total - s .place) at) (RunTo n behind)
+        → AlphaPairStepped B k total s (PairTo v (record { at = behind; place = s .place + n; prev = v + 1 }))
     pair-on n behind r =
         let less : total - s .place - n ≡ total - (s .place + n) = omega arith in
         let many : n ≡ s .place + n - s .place = omega arith in
@@ -72,8 +71,8 @@ module _ (B : List Bool) (k : AlphaChannelType) (total : ℕ) (s : Alphas) (room
           is = λ out.
               on-sample out
               ∙ from-moved k _ out (drop at B) _ _ _ (run-due k (total - s .place) v (drop at B) ∙ r .is v)
-              ∙ ap₂ (λ (i j : ℕ). from (step k) finish (difference i (pos v)) (out ++ replicate j v) (drop behind B)) less many
-              ∙ ap (λ (q : ℕ). from (step k) finish (difference (total - (s .place + n)) (previousOf q)) (out ++ replicate (s .place + n - s .place) v) (drop behind B))
+              ∙ ap₂ (λ (i j : ℕ). from (alphaStep k) alphaFinish (difference i (pos v)) (out ++ replicate j v) (drop behind B)) less many
+              ∙ ap (λ (q : ℕ). from (alphaStep k) alphaFinish (difference (total - (s .place + n)) (previousOf q)) (out ++ replicate (s .place + n - s .place) v) (drop behind B))
               (sym (add-one v));
           further = omega (arith, r .keeps .some);
           room = omega arith;
@@ -81,79 +80,61 @@ module _ (B : List Bool) (k : AlphaChannelType) (total : ℕ) (s : Alphas) (room
           range = omega (arith, d .keeps .range);
         }
 
--- ---- the start, a pair that moves and one that is refused, the end
+-- ---- the start, a pair that moves, the end
 
 pub stands-start : (B : List Bool) (k : AlphaChannelType) (out : List ℕ) (prev : ℕ) → previousOf prev ≡ negsuc 0
-    → Stands B k (length out) (record { at = 0; place = 0; prev = prev }) out
-unfolding decode
+    → AlphaStands B k (length out) (record { at = 0; place = 0; prev = prev }) out
+unfolding decodeAlpha
 stands-start B k out prev e =
     let all : length out - 0 ≡ length out = omega arith in
     record {
-      same = ap₂ (λ (i : ℕ) (p : ℤ). from (step k) finish (difference i p) [] B) all e;
+      stands = record { same = ap₂ (λ (i : ℕ) (p : ℤ). from (alphaStep k) alphaFinish (difference i p) [] B) all e; within = omega arith };
       long = refl;
       room = omega arith;
-      within = omega arith;
       range = omega (arith, start-unique prev 0 e refl);
     }
 
--- what is accepted or rejected at the end
-end-says : (B : List Bool) (st : State) (total at : ℕ) (out : List ℕ) → at ≤ length B
-    → reachedSays total (endOf (drop at B) at) out ≡ settled B total (finish st out (drop at B))
-unfolding finish endOf
-end-says B st total at out w = go (ltb 7 (length (drop at B))) (ended (drop at B))
-  where
-    count : at ≡ length B - length (drop at B)
-    count = omega (arith, length-drop at B)
+module _ {B : List Bool} {k : AlphaChannelType} {total : ℕ} {s : Alphas} {out : List ℕ} (a : AlphaStands B k total s out) where
+  -- the part of the list that is lent comes back filled with the run's samples
+  module _ (v : ℕ) (n : Alphas) (g : PairOn B k total s v n) where
+    abbrev run : ℕ
+    run = n .place - s .place
 
-    go : (x y : Bool) → reachedSays total (cond x (Stopped Tail) (cond y (At at) (Stopped Padding))) out
-        ≡ settled B total (cond x (rejected 11 (drop at B)) (cond y (accepted out (drop at B)) (rejected 12 (drop at B))))
-    go true y = refl
-    go false true = ap (λ (i : ℕ). alphaDecoding (read i) out) count
-    go false false = refl
+    abbrev behind : List ℕ
+    behind = drop (s .place) out
 
-module _ {B : List Bool} {k : AlphaChannelType} {total : ℕ} {s : Alphas} {out : List ℕ} (a : Stands B k total s out) where
-  -- the run's places are filled
-  stands-put : (v : ℕ) (n : Alphas) (rest : List ℕ) → PairOn B k total s v n → length rest ≡ total - n .place
-      → Stands B k total n (take (s .place) out ++ (replicate (n .place - s .place) v ++ rest))
-  stands-put v n rest g l =
-      let run : List ℕ = replicate (n .place - s .place) v in
-      let front : length (take (s .place) out) ≡ s .place = length-take-le (s .place) out (omega (arith, a .long, a .room)) in
-      let count : length (take (s .place) out ++ run) ≡ n .place =
-      omega (arith, length-append (take (s .place) out) run, length-replicate (n .place - s .place) v, g .further) in
-      let split : take (s .place) out ++ (run ++ rest) ≡ (take (s .place) out ++ run) ++ rest = sym (append-assoc (take (s .place) out) run rest) in
-      record {
-        same = ap (λ (t : List ℕ). fromDifference B k total n t) (ap (take (n .place)) split ∙ take-at (take (s .place) out ++ run) rest (n .place) count)
-            ∙ sym (g .is (take (s .place) out))
-            ∙ a .same;
-        long = ap length split ∙ omega (arith, length-append (take (s .place) out ++ run) rest, g .room);
-        room = g .room;
-        within = g .within;
-        range = g .range;
-      }
+    lent : length (take run behind) ≡ run
+    lent = length-take-le run behind (omega (arith, length-drop (s .place) out, a .long, g .room))
 
-  -- the part of the list that is lent, and comes back filled
-  pub stands-fill : (v : ℕ) (n : Alphas) (part : List ℕ) → PairOn B k total s v n → part ≡ replicate (length (take (n .place - s .place) (drop (s .place) out))) v
-      → Stands B k total n (take (s .place) out ++ (part ++ drop (n .place - s .place) (drop (s .place) out)))
-  stands-fill v n part g e =
-      let behind : List ℕ = drop (s .place) out in
-      let lent : length (take (n .place - s .place) behind) ≡ n .place - s .place =
-      length-take-le (n .place - s .place) behind (omega (arith, length-drop (s .place) out, a .long, g .room)) in
-      let rest : length (drop (n .place - s .place) behind) ≡ total - n .place =
-      omega (arith, length-drop (n .place - s .place) behind, length-drop (s .place) out, a .long, g .further) in
-      subst (λ (l : List ℕ). Stands B k total n (take (s .place) out ++ (l ++ drop (n .place - s .place) behind))) (sym (e ∙ ap (λ (i : ℕ). replicate i v) lent))
-      (stands-put v n (drop (n .place - s .place) behind) g rest)
+    pub stands-fill : (part : List ℕ) → part ≡ replicate (length (take run behind)) v → AlphaStands B k total n (take (s .place) out ++ (part ++ drop run behind))
+    stands-fill part e =
+        let filled : part ≡ replicate run v = e ∙ ap (λ (i : ℕ). replicate i v) lent in
+        let front : length (take (s .place) out) ≡ s .place = length-take-le (s .place) out (omega (arith, a .long, a .room)) in
+        let count : length (take (s .place) out ++ part) ≡ n .place =
+        omega (arith, length-append (take (s .place) out) part, ap length filled, length-replicate run v, g .further) in
+        let split : take (s .place) out ++ (part ++ drop run behind) ≡ (take (s .place) out ++ part) ++ drop run behind = sym (append-assoc (take (s .place) out) part (drop run behind)) in
+        record {
+          stands = stands-on (alphaStep k) alphaFinish (a .stands) _ (n .place) (n .at) _ (replicate run v) (g .is (take (s .place) out))
+              (ap (take (n .place)) split ∙ take-at (take (s .place) out ++ part) (drop run behind) (n .place) count ∙ ap (λ (l : List ℕ). take (s .place) out ++ l) filled) (g .within);
+          long = ap length split ∙ omega (arith, length-append (take (s .place) out ++ part) (drop run behind), length-drop run behind, length-drop (s .place) out, a .long, g .further, g .room);
+          room = g .room;
+          range = g .range;
+        }
 
-  -- a refusal is the whole reading's
-  pub stands-rejects : (why : Refusal) → PairStepped B k total s (NoPair why) → alphaDecoding (refuse (numberOf why)) (replicate total 0) ≡ settled B total (decode k total B)
-  stands-rejects why g = let r = g (take (s .place) out) in ap (settled B total) (sym (r .is) ∙ a .same)
+  -- no sample is left
+  module _ (all : total ≤ s .place) where
+    last : from (alphaStep k) alphaFinish (difference (total - s .place) (previousOf (s .prev))) (take (s .place) out) (drop (s .at) B)
+        ≡ alphaFinish (difference 0 (previousOf (s .prev))) out (drop (s .at) B)
+    last =
+        let none : total - s .place ≡ 0 = omega arith in
+        let p : ℤ = previousOf (s .prev) in
+        let whole : take (s .place) out ≡ out = take-all (s .place) out (omega (arith, a .long)) in
+        ap₂ (λ (i : ℕ) (t : List ℕ). from (alphaStep k) alphaFinish (difference i p) t (drop (s .at) B)) none whole
+        ∙ from-stop k (difference 0 p) out (drop (s .at) B) (step-end k p (drop (s .at) B))
 
-  pub stands-end : total ≤ s .place → reachedSays total (endOf (drop (s .at) B) (s .at)) out ≡ settled B total (decode k total B)
-  stands-end h =
-      let none : total - s .place ≡ 0 = omega arith in
-      let p : ℤ = previousOf (s .prev) in
-      let whole : take (s .place) out ≡ out = take-all (s .place) out (omega (arith, a .long)) in
-      end-says B (difference 0 p) total (s .at) out (a .within)
-      ∙ ap (settled B total)
-      (sym (from-stop k (difference 0 p) out (drop (s .at) B) (step-end k p (drop (s .at) B)))
-      ∙ ap₂ (λ (i : ℕ) (t : List ℕ). from (step k) finish (difference i p) t (drop (s .at) B)) (sym none) (sym whole)
-      ∙ a .same)
+    pub stands-end : (r : Reached) → AlphaEnds (drop (s .at) B) (s .at) r → reachedSays 0 total r out ≡ settled 0 B total (decodeAlpha k total B)
+    stands-end (At q) e =
+        ap (λ (i : ℕ). decoding (read i) out) (e .here) ∙ stands-accepts (alphaStep k) alphaFinish (a .stands) 0 total out (last ∙ e .is (difference 0 (previousOf (s .prev))) out)
+    stands-end (Stopped why) e =
+        rejects-settled 0 B total (numberOf why)
+        (stands-rejects (alphaStep k) alphaFinish (a .stands) (numberOf why) (record { bits = drop (s .at) B; is = last ∙ e .is (difference 0 (previousOf (s .prev))) out }))

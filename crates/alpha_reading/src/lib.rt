@@ -3,20 +3,19 @@
 ghost use mathlib.Core.Path.{_≡_};
 ghost use Prim.Native.Nat.{_+_, _≤_, _<_};
 ghost use lib.ListN.{length, replicate, drop};
+ghost use Rattle.answers.specs.Told.{reachedSays};
 ghost use Rattle.bitstream.specs.Bits.{bitsOf};
-ghost use Rattle.bitstream.specs.Told.{payloadLimit, Placed};
-ghost use Rattle.samples.specs.Kinds.{maskOf};
-ghost use Rattle.samples.specs.Limits.{sampleLimit};
-ghost use Rattle.samples.specs.Decoding.{decode};
-ghost use Rattle.samples.specs.Answers.{settled};
-ghost use Rattle.alpha_reading.specs.Steps.{smallDue, escapedDue, differenceDue, SampleStepped};
-ghost use Rattle.alpha_reading.specs.Steps.{runOf, longDue, shortDue, runDue, RunStepped, PairStepped, endOf, reachedSays};
+ghost use Rattle.bitstream.specs.Told.{payloadLimit, InPayload};
+ghost use Rattle.alpha_elements.specs.Kinds.{maskOf};
+ghost use Rattle.alpha_elements.specs.Limits.{sampleLimit};
+ghost use Rattle.alpha_elements.specs.Answers.{alphaReadingOf};
+ghost use Rattle.alpha_reading.specs.Steps.{smallDue, escapedDue, differenceDue, SampleStepped, runOf, longDue, shortDue, runDue, AlphaRunStepped, AlphaPairStepped, AlphaEnds};
+use alpha_elements::AlphaChannelType;
+use alpha_elements::values;
+use answers::Reached;
+use answers::Refusal;
 use bitstream::Cursor;
-use bitstream::Reached;
 use bitstream::Read;
-use bitstream::Refusal;
-use samples::AlphaChannelType;
-use samples::values;
 
 // A sample, and the bit behind its difference.
 enum SampleStep {
@@ -26,7 +25,7 @@ enum SampleStep {
 
 // A small field and its sign, in one field: where one of them is cut off, the answer is the same.
 fn small_step(payload: &[u8], kind: AlphaChannelType, prev: u32, at: usize) -> SampleStep
-    requires { ⌜ Placed (now payload) at × (prev ≤ maskOf kind + 1) ⌝ }
+    requires { ⌜ InPayload (now payload) at × (prev ≤ maskOf kind + 1) ⌝ }
     ensures { λ r. ⌜ SampleStepped (bitsOf (now (payload .entry))) kind (smallDue kind prev at) r ⌝ }
 {
     let read = Cursor { at }.read_bits(payload, kind.small_width() + 1);
@@ -40,7 +39,7 @@ fn small_step(payload: &[u8], kind: AlphaChannelType, prev: u32, at: usize) -> S
 }
 
 fn escaped_step(payload: &[u8], kind: AlphaChannelType, prev: u32, at: usize) -> SampleStep
-    requires { ⌜ Placed (now payload) at × (prev ≤ maskOf kind + 1) ⌝ }
+    requires { ⌜ InPayload (now payload) at × (prev ≤ maskOf kind + 1) ⌝ }
     ensures { λ r. ⌜ SampleStepped (bitsOf (now (payload .entry))) kind (escapedDue kind prev at) r ⌝ }
 {
     let read = Cursor { at }.read_bits(payload, kind.width());
@@ -55,7 +54,7 @@ fn escaped_step(payload: &[u8], kind: AlphaChannelType, prev: u32, at: usize) ->
 
 // A difference: a 1 and a field, or a 0, a small field and a sign.
 fn difference_step(payload: &[u8], kind: AlphaChannelType, prev: u32, at: usize) -> SampleStep
-    requires { ⌜ Placed (now payload) at × (prev ≤ maskOf kind + 1) ⌝ }
+    requires { ⌜ InPayload (now payload) at × (prev ≤ maskOf kind + 1) ⌝ }
     ensures { λ r. ⌜ SampleStepped (bitsOf (now (payload .entry))) kind (differenceDue kind prev at) r ⌝ }
 {
     let read = Cursor { at }.read_bit(payload);
@@ -71,44 +70,44 @@ fn difference_step(payload: &[u8], kind: AlphaChannelType, prev: u32, at: usize)
 }
 
 // A run, and the bit behind it.
-enum RunStep {
+enum AlphaRunStep {
     To(usize, usize),
     No(Refusal),
 }
 
 // The run n, where `left` samples are left.
-fn run_to(left: usize, n: usize, at: usize) -> RunStep
+fn run_to(left: usize, n: usize, at: usize) -> AlphaRunStep
     ensures { λ r. ⌜ r ≡ runOf left n at ⌝ }
 {
     if left < n {
-        return RunStep::No(Refusal::AlphaOverrun);
+        return AlphaRunStep::No(Refusal::AlphaOverrun);
     }
-    RunStep::To(n, at)
+    AlphaRunStep::To(n, at)
 }
 
-fn long_step(payload: &[u8], left: usize, at: usize) -> RunStep
-    requires { ⌜ Placed (now payload) at ⌝ }
-    ensures { λ r. ⌜ RunStepped (bitsOf (now (payload .entry))) left (longDue left at) r ⌝ }
+fn long_step(payload: &[u8], left: usize, at: usize) -> AlphaRunStep
+    requires { ⌜ InPayload (now payload) at ⌝ }
+    ensures { λ r. ⌜ AlphaRunStepped (bitsOf (now (payload .entry))) left (longDue left at) r ⌝ }
 {
     let read = Cursor { at }.read_bits(payload, 11);
     match read {
-        Read::No(why) => RunStep::No(why),
+        Read::No(why) => AlphaRunStep::No(why),
         Read::Value { value, next } => {
             if value < 16 {
-                return RunStep::No(Refusal::LongRun);
+                return AlphaRunStep::No(Refusal::LongRun);
             }
             run_to(left, value as usize + 1, next.at)
         }
     }
 }
 
-fn short_step(payload: &[u8], left: usize, at: usize) -> RunStep
-    requires { ⌜ Placed (now payload) at ⌝ }
-    ensures { λ r. ⌜ RunStepped (bitsOf (now (payload .entry))) left (shortDue left at) r ⌝ }
+fn short_step(payload: &[u8], left: usize, at: usize) -> AlphaRunStep
+    requires { ⌜ InPayload (now payload) at ⌝ }
+    ensures { λ r. ⌜ AlphaRunStepped (bitsOf (now (payload .entry))) left (shortDue left at) r ⌝ }
 {
     let read = Cursor { at }.read_bits(payload, 4);
     match read {
-        Read::No(why) => RunStep::No(why),
+        Read::No(why) => AlphaRunStep::No(why),
         Read::Value { value, next } => {
             if value == 0 {
                 return long_step(payload, left, next.at);
@@ -119,13 +118,13 @@ fn short_step(payload: &[u8], left: usize, at: usize) -> RunStep
 }
 
 // A run: a 1; or a 0 and a field of 4 bits; or, where that field is 0, one of 11 bits behind it.
-fn run_step(payload: &[u8], left: usize, at: usize) -> RunStep
-    requires { ⌜ Placed (now payload) at ⌝ }
-    ensures { λ r. ⌜ RunStepped (bitsOf (now (payload .entry))) left (runDue left at) r ⌝ }
+fn run_step(payload: &[u8], left: usize, at: usize) -> AlphaRunStep
+    requires { ⌜ InPayload (now payload) at ⌝ }
+    ensures { λ r. ⌜ AlphaRunStepped (bitsOf (now (payload .entry))) left (runDue left at) r ⌝ }
 {
     let read = Cursor { at }.read_bit(payload);
     match read {
-        Read::No(why) => RunStep::No(why),
+        Read::No(why) => AlphaRunStep::No(why),
         Read::Value { value, next } => {
             if value == 1 {
                 return run_to(left, 1, next.at);
@@ -149,8 +148,8 @@ enum PairStep {
 
 // A difference and its run.
 fn pair_step(payload: &[u8], kind: AlphaChannelType, total: usize, s: Alphas) -> PairStep
-    requires { ⌜ Placed (now payload) (s .at) × (s .place < total) × (s .prev ≤ maskOf kind + 1) ⌝ }
-    ensures { λ r. ⌜ PairStepped (bitsOf (now (payload .entry))) kind total s r ⌝ }
+    requires { ⌜ InPayload (now payload) (s .at) × (s .place < total) × (s .prev ≤ maskOf kind + 1) ⌝ }
+    ensures { λ r. ⌜ AlphaPairStepped (bitsOf (now (payload .entry))) kind total s r ⌝ }
 {
     let sample = difference_step(payload, kind, s.prev, s.at);
     match sample {
@@ -158,8 +157,8 @@ fn pair_step(payload: &[u8], kind: AlphaChannelType, total: usize, s: Alphas) ->
         SampleStep::To(v, at) => {
             let run = run_step(payload, total - s.place, at);
             match run {
-                RunStep::No(short) => PairStep::No(short),
-                RunStep::To(n, behind) => {
+                AlphaRunStep::No(short) => PairStep::No(short),
+                AlphaRunStep::To(n, behind) => {
                     let place = s.place + n;
                     PairStep::To(
                         v as u16,
@@ -188,8 +187,8 @@ pub fn fill(out: &mut [u16], v: u16)
 
 // Behind the last sample: at most 7 bits are left, and none of them is a 1.
 fn end(payload: &[u8], at: usize) -> Reached
-    requires { ⌜ Placed (now payload) at ⌝ }
-    ensures { λ r. ⌜ r ≡ endOf (drop at (bitsOf (now (payload .entry)))) at ⌝ }
+    requires { ⌜ InPayload (now payload) at ⌝ }
+    ensures { λ r. ⌜ AlphaEnds (drop at (bitsOf (now (payload .entry)))) at r ⌝ }
 {
     if 7 < payload.len() * 8 - at {
         return Reached::No(Refusal::Tail);
@@ -203,7 +202,7 @@ fn end(payload: &[u8], at: usize) -> Reached
 // The samples of a payload, into a list whose length is their number.
 pub fn read_all(payload: &[u8], kind: AlphaChannelType, out: &mut [u16]) -> Reached
     requires { ⌜ (length (now payload) ≤ payloadLimit) × (length (now out) ≤ sampleLimit) ⌝ }
-    ensures { λ r. ⌜ reachedSays (length (now (out .entry))) r (now (out .exit)) ≡ settled (bitsOf (now (payload .entry))) (length (now (out .entry))) (decode kind (length (now (out .entry))) (bitsOf (now (payload .entry)))) ⌝ }
+    ensures { λ r. ⌜ reachedSays 0 (length (now (out .entry))) r (now (out .exit)) ≡ alphaReadingOf kind (now (payload .entry)) (length (now (out .entry))) ⌝ }
 {
     let total = out.len();
     let mut s = Alphas {

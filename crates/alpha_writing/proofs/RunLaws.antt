@@ -8,11 +8,11 @@ use mathlib.Core.List.{List, [], _∷_}
 use native.Mathlib.Decide.{decLe}
 use lib.ListN.{length, drop, getD, drop-of-length-le}
 use lib.Seq.{drop-cons}
-use Rattle.samples.specs.declared.AlphaChannelType.{AlphaChannelType}
-use Rattle.samples.specs.Limits.{runLimit}
-use Rattle.samples.specs.Elements.{runElement, runElements}
-use Rattle.samples.proofs.ElementLaws.{run-same, run-other, run-full}
-use Rattle.alpha_writing.specs.Writing.{elementsFrom, Stop, Run}
+use Rattle.alpha_elements.specs.declared.AlphaChannelType.{AlphaChannelType}
+use Rattle.alpha_elements.specs.Limits.{runLimit}
+use Rattle.alpha_elements.specs.Elements.{alphaRunElement, runElements}
+use Rattle.alpha_elements.proofs.ElementLaws.{run-same, run-other, run-full}
+use Rattle.alpha_writing.specs.Writing.{elementsFrom, RunStop, RunAt}
 
 -- the samples from i up to e are one run so far
 abbrev pub Along : List ℕ → ℕ → ℕ → Type 0
@@ -20,7 +20,7 @@ Along ss i e = (k : AlphaChannelType) → runElements k (getD ss i 0) 1 (drop (i
 
 -- a run of c samples v ends before the samples ss
 abbrev Ends : ℕ → ℕ → List ℕ → Type 0
-Ends v c ss = (k : AlphaChannelType) → runElements k v c ss ≡ runElement c ∷ elementsFrom k (v + 1) ss
+Ends v c ss = (k : AlphaChannelType) → runElements k v c ss ≡ alphaRunElement c ∷ elementsFrom k (v + 1) ss
 
 ends-last : (v c : ℕ) → Ends v c []
 unfolding runElements elementsFrom
@@ -51,21 +51,21 @@ module _ (ss : List ℕ) (i : ℕ) where
         ∙ run-same k v (e - i) (getD ss e 0) (drop (suc e) ss) same few
         ∙ ap₂ (λ (c j : ℕ). runElements k v c (drop j ss)) more (sym (add-one e))
 
-    along-ends : e ≤ length ss → e ≤ i + runLimit → Ends v (e - i) (drop e ss) → Run ss i (e - i)
+    along-ends : e ≤ length ss → e ≤ i + runLimit → Ends v (e - i) (drop e ss) → RunAt ss i (e - i)
     along-ends h few ends =
         let there : e ≡ i + (e - i) = omega arith in
         record {
           some = omega arith;
           most = omega arith;
           inside = omega arith;
-          is = λ k. along k ∙ ends k ∙ ap (λ (j : ℕ). runElement (e - i) ∷ elementsFrom k (v + 1) (drop j ss)) there;
+          is = λ k. along k ∙ ends k ∙ ap (λ (j : ℕ). alphaRunElement (e - i) ∷ elementsFrom k (v + 1) (drop j ss)) there;
         }
 
-    pub along-other : e < length ss → e ≤ i + runLimit → (getD ss e 0 ≡ v → ⊥) → Run ss i (e - i)
+    pub along-other : e < length ss → e ≤ i + runLimit → (getD ss e 0 ≡ v → ⊥) → RunAt ss i (e - i)
     along-other h few n =
         along-ends (omega arith) few (rw (drop-cons ss e 0 h) (ends-other v (e - i) (getD ss e 0) (drop (suc e) ss) n))
 
-    pub along-stop : Stop (length ss) i e → Run ss i (e - i)
+    pub along-stop : RunStop (length ss) i e → RunAt ss i (e - i)
     along-stop s = along-ends (s .inside) (s .most) (elim (decLe (suc e) (length ss)) [ yes h ↦ full h | no h ↦ last h ])
       where
         full : e < length ss → Ends v (e - i) (drop e ss)

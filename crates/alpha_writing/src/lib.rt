@@ -5,14 +5,14 @@ ghost use Prim.Native.Nat.{_+_, _*_, _≤_, _<_};
 ghost use lib.ListN.{length};
 ghost use Rattle.bitstream.specs.Bits.{field};
 ghost use Rattle.bitstream.specs.Bytes.{stored};
-ghost use Rattle.samples.specs.Kinds.{maskOf};
-ghost use Rattle.samples.specs.Limits.{sampleLimit, runLimit, inRange};
-ghost use Rattle.samples.specs.Elements.{encode};
-ghost use Rattle.alpha_writing.specs.Writing.{pairBits, Stop, Run, Fits, Steps};
-use codeword::Word;
-use samples::AlphaChannelType;
-use samples::values;
-use samples::words;
+ghost use Rattle.alpha_elements.specs.Kinds.{maskOf};
+ghost use Rattle.alpha_elements.specs.Limits.{sampleLimit, alphaCodeLimit, runLimit, samplesInRange};
+ghost use Rattle.alpha_elements.specs.Elements.{encodeAlpha};
+ghost use Rattle.alpha_writing.specs.Writing.{pairBits, RunStop, RunAt, SampleDue, PairAt};
+use alpha_elements::AlphaChannelType;
+use alpha_elements::values;
+use alpha_elements::words;
+use bitstream_writer::Word;
 
 fn wide(x: u16) -> u32
     ensures { λ r. ⌜ r ≡ x ⌝ }
@@ -22,7 +22,7 @@ fn wide(x: u16) -> u32
 
 // Whether a sample is out of range (refusal 4). All are looked at, without a branch, so that several go at once.
 pub fn out_of_range(samples: &[u16], kind: AlphaChannelType) -> bool
-    ensures { λ r. ⌜ r ≡ not (inRange kind (now (samples .entry))) ⌝ }
+    ensures { λ r. ⌜ r ≡ not (samplesInRange kind (now (samples .entry))) ⌝ }
 {
     let mask = kind.mask();
     let mut wrong = false;
@@ -34,10 +34,10 @@ pub fn out_of_range(samples: &[u16], kind: AlphaChannelType) -> bool
     wrong
 }
 
-// ---- a step
+// ---- a pair
 
 // A difference and its run: the word to write, the samples that it takes, and what is carried then.
-struct Step {
+struct Pair {
     len: u32,
     bits: u64,
     run: usize,
@@ -47,7 +47,7 @@ struct Step {
 // Where the run of sample i ends at the latest, in a list of count samples.
 fn run_stop(count: usize, i: usize) -> usize
     requires { ⌜ i < count ⌝ }
-    ensures { λ r. ⌜ Stop count i r ⌝ }
+    ensures { λ r. ⌜ RunStop count i r ⌝ }
 {
     let most = AlphaChannelType::MAX_RUN as usize;
     if count - i <= most {
@@ -59,7 +59,7 @@ fn run_stop(count: usize, i: usize) -> usize
 // The run of sample i: the longest one, up to the limit.
 fn run_at(samples: &[u16], i: usize) -> usize
     requires { ⌜ i < length (now samples) ⌝ }
-    ensures { λ r. ⌜ Run (now (samples .entry)) i r ⌝ }
+    ensures { λ r. ⌜ RunAt (now (samples .entry)) i r ⌝ }
 {
     let v = samples[i];
     let stop = run_stop(samples.len(), i);
@@ -86,15 +86,15 @@ fn pair_word(kind: AlphaChannelType, prev: u32, v: u32, n: usize) -> Word
     }
 }
 
-// The step from sample i on.
-fn step_at(samples: &[u16], kind: AlphaChannelType, prev: u32, i: usize) -> Step
-    requires { ⌜ Fits kind (now samples) prev i ⌝ }
-    ensures { λ r. ⌜ Steps kind (now (samples .entry)) prev i r ⌝ }
+// The pair from sample i on.
+fn pair_at(samples: &[u16], kind: AlphaChannelType, prev: u32, i: usize) -> Pair
+    requires { ⌜ SampleDue kind (now samples) prev i ⌝ }
+    ensures { λ r. ⌜ PairAt kind (now (samples .entry)) prev i r ⌝ }
 {
     let v = wide(samples[i]);
     let run = run_at(samples, i);
     let w = pair_word(kind, prev, v, run);
-    Step {
+    Pair {
         len: w.len,
         bits: w.bits,
         run,
@@ -106,14 +106,14 @@ fn step_at(samples: &[u16], kind: AlphaChannelType, prev: u32, i: usize) -> Step
 
 // The bits of the code.
 pub fn count(samples: &[u16], kind: AlphaChannelType) -> usize
-    requires { ⌜ (length (now samples) ≤ sampleLimit) × (inRange kind (now samples) ≡ true) ⌝ }
-    ensures { λ r. ⌜ (r ≡ length (encode kind (now (samples .entry)))) × (r ≤ 294912) ⌝ }
+    requires { ⌜ (length (now samples) ≤ sampleLimit) × (samplesInRange kind (now samples) ≡ true) ⌝ }
+    ensures { λ r. ⌜ (r ≡ length (encodeAlpha kind (now (samples .entry)))) × (r ≤ alphaCodeLimit) ⌝ }
 {
     let mut prev = values::start();
     let mut bits: usize = 0;
     let mut i: usize = 0;
     while i < samples.len() {
-        let s = step_at(samples, kind, prev, i);
+        let s = pair_at(samples, kind, prev, i);
         bits += s.len as usize;
         prev = s.prev;
         i += s.run;
@@ -123,16 +123,16 @@ pub fn count(samples: &[u16], kind: AlphaChannelType) -> usize
 
 // Writes the code at the start of out, which has room for it.
 pub fn write(samples: &[u16], kind: AlphaChannelType, out: &mut [u8]) -> usize
-    requires { ⌜ (length (now samples) ≤ sampleLimit) × (inRange kind (now samples) ≡ true) × (length (encode kind (now samples)) ≤ 8 * length (now out)) ⌝ }
-    ensures count { λ r. ⌜ r ≡ length (encode kind (now (samples .entry))) ⌝ }
-    ensures buffer { λ _. ⌜ now (out .exit) ≡ stored (now (out .entry)) (encode kind (now (samples .entry))) ⌝ }
+    requires { ⌜ (length (now samples) ≤ sampleLimit) × (samplesInRange kind (now samples) ≡ true) × (length (encodeAlpha kind (now samples)) ≤ 8 * length (now out)) ⌝ }
+    ensures count { λ r. ⌜ r ≡ length (encodeAlpha kind (now (samples .entry))) ⌝ }
+    ensures buffer { λ _. ⌜ now (out .exit) ≡ stored (now (out .entry)) (encodeAlpha kind (now (samples .entry))) ⌝ }
 {
     let mut prev = values::start();
     let mut at: usize = 0;
     let mut i: usize = 0;
     while i < samples.len() {
-        let s = step_at(samples, kind, prev, i);
-        at = bitwriter::put(out, at, s.len, s.bits);
+        let s = pair_at(samples, kind, prev, i);
+        at = bitstream_writer::put(out, at, s.len, s.bits);
         prev = s.prev;
         i += s.run;
     }

@@ -1,227 +1,67 @@
-// What a case is answered with, on standard output. A function that writes gives true, so that a case can end with it.
+// What every coder says: why a call is refused, where a reading stands, and how a coder answers. The definitions that all of them are held to are in
+// specs/: document 01's numbers, and the reader of elements.
 ghost use mathlib.Core.Path.{_≡_};
-ghost use mathlib.Core.Bool.{true, _&&_};
-ghost use lib.Dec.{leb};
-ghost use lib.ListN.{length};
-use libc::STDOUT_FILENO;
+ghost use Rattle.answers.specs.Refusals.{numberOf};
 
-pub mod parts; // the beginning of a list or a buffer
-
-// What stands in a list, and in a buffer, before a call, so that a store is seen.
-const OLD_ENTRY: i32 = 7;
-
-const OLD_BYTE: u8 = 0xa5;
-
-// The longest list: the coefficients of 9 macroblocks of 4:4:4, one more than may be coded.
-const LIST_LIMIT: usize = 6912;
-
-// The largest buffer.
-const ROOM_LIMIT: usize = 4096;
-
-pub fn old_list() -> [i32; LIST_LIMIT]
-    ensures { λ r. ⌜ 6912 ≡ length r ⌝ }
-{
-    [OLD_ENTRY; LIST_LIMIT]
+// Why a call is refused: document 01's table, its number beside each. Every layer hands these up as they are. (3, no room, reports the needed
+// bytes as well, so the encoders have a case of their own for it.)
+pub enum Refusal {
+    Limit, // 1: a count or a payload's length is outside the limits
+    Length, // 2: a coefficient list is not exactly 64 x its blocks
+    Value, // 4: a value to encode is out of range
+    Short, // 5: the bits run out before an element that is due is complete
+    Codeword, // 6: a bad codeword
+    Overrun, // 7: a run passes the last coefficient
+    Range, // 8: a decoded coefficient is out of range
+    LongRun, // 9: an alpha long run field is below 16
+    AlphaOverrun, // 10: an alpha run passes the last sample
+    Tail, // 11: more than 7 bits are left after alpha
+    Padding, // 12: at most 7 bits are left after alpha, and one of them is a 1
+    Selector, // 13: a selector is unknown
 }
 
-pub fn old_buffer() -> [u8; ROOM_LIMIT]
-    ensures { λ r. ⌜ 4096 ≡ length r ⌝ }
-{
-    [OLD_BYTE; ROOM_LIMIT]
-}
-
-// Whether the sizes of an encode are within the limits: no entry from used on is named, the list has len entries, most at the most, and the buffer has
-// room bytes.
-pub fn within(used: usize, len: usize, most: usize, room: usize) -> bool
-    ensures { λ r. ⌜ r ≡ leb used len && leb len most && leb room 4096 ⌝ }
-{
-    if len < used {
-        return false;
-    }
-    if most < len {
-        return false;
-    }
-    room <= ROOM_LIMIT
-}
-
-fn put(text: &[u8]) {
-    io::write_all(STDOUT_FILENO, text);
-}
-
-// A line's first word, a number.
-pub fn first(n: usize) -> bool
-    ensures { λ r. ⌜ r ≡ true ⌝ }
-{
-    io::print_decimal(STDOUT_FILENO, n as u64);
-    true
-}
-
-// One number more.
-pub fn next(n: usize) -> bool
-    ensures { λ r. ⌜ r ≡ true ⌝ }
-{
-    put(b" ");
-    first(n)
-}
-
-fn two_digits(b: u8) {
-    io::print_hex(STDOUT_FILENO, b as u64, 2);
-}
-
-// Bytes as a word: two digits a byte, or `-` for none.
-pub fn bytes(s: &[u8]) -> bool
-    ensures { λ r. ⌜ r ≡ true ⌝ }
-{
-    put(b" ");
-    if s.len() == 0 {
-        put(b"-");
-    }
-    let mut i: usize = 0;
-    while i < s.len() {
-        two_digits(s[i]);
-        i += 1;
-    }
-    true
-}
-
-// `P:V`, a place and the value there, with `-` before it below zero; nothing where the value is 0.
-pub fn entry(place: usize, negative: bool, magnitude: usize) -> bool
-    ensures { λ r. ⌜ r ≡ true ⌝ }
-{
-    if magnitude == 0 {
-        return true;
-    }
-    next(place);
-    put(b":");
-    if negative {
-        put(b"-");
-    }
-    first(magnitude)
-}
-
-// The entries of a list that are not 0, in order.
-pub fn entries(list: &[i32]) -> bool
-    ensures { λ r. ⌜ r ≡ true ⌝ }
-{
-    let mut i: usize = 0;
-    while i < list.len() {
-        let value = list[i];
-        entry(i, signs::negative(value), signs::magnitude(value) as usize);
-        i += 1;
-    }
-    true
-}
-
-pub fn refused(number: u32) -> bool
-    ensures { λ r. ⌜ r ≡ true ⌝ }
-{
-    put(b"refused ");
-    first(number as usize)
-}
-
-// Whether every entry is the value.
-fn filled(list: &[i32], value: i32) -> bool {
-    let mut i: usize = 0;
-    while i < list.len() {
-        if list[i] != value {
-            return false;
+impl Refusal {
+    pub fn number(self) -> u32
+        ensures { λ r. ⌜ r ≡ numberOf self ⌝ }
+    {
+        match self {
+            Refusal::Limit => 1,
+            Refusal::Length => 2,
+            Refusal::Value => 4,
+            Refusal::Short => 5,
+            Refusal::Codeword => 6,
+            Refusal::Overrun => 7,
+            Refusal::Range => 8,
+            Refusal::LongRun => 9,
+            Refusal::AlphaOverrun => 10,
+            Refusal::Tail => 11,
+            Refusal::Padding => 12,
+            Refusal::Selector => 13,
         }
-        i += 1;
     }
-    true
 }
 
-fn filled_bytes(buf: &[u8], value: u8) -> bool {
-    let mut i: usize = 0;
-    while i < buf.len() {
-        if buf[i] != value {
-            return false;
-        }
-        i += 1;
-    }
-    true
+// How the arguments of a call are answered, before anything is read or written.
+pub enum Arguments {
+    Taken,
+    Refused(Refusal),
 }
 
-// What a refused decode left: a list as it was, all zero, or anything else.
-pub fn left(kept: bool, zero: bool) -> bool
-    ensures { λ r. ⌜ r ≡ true ⌝ }
-{
-    if kept {
-        put(b" kept");
-        return true;
-    }
-    if zero {
-        put(b" zero");
-        return true;
-    }
-    put(b" mixed");
-    true
+// Where a reading of many elements stands: behind a bit, or refused.
+pub enum Reached {
+    At(usize),
+    No(Refusal),
 }
 
-// An empty list counts as kept.
-fn left_of_list(list: &[i32]) -> bool
-    ensures { λ r. ⌜ r ≡ true ⌝ }
-{
-    left(filled(list, OLD_ENTRY), filled(list, 0))
+// How decoding a list of coefficients or of samples is answered.
+pub enum Decoded {
+    Done { bits: usize },
+    Refused(Refusal),
 }
 
-// What a refused encode left.
-fn left_of_buffer(buf: &[u8]) -> bool
-    ensures { λ r. ⌜ r ≡ true ⌝ }
-{
-    if filled_bytes(buf, OLD_BYTE) {
-        put(b" kept");
-        return true;
-    }
-    put(b" touched");
-    true
-}
-
-// A refused decode.
-pub fn refused_list(number: u32, list: &[i32]) -> bool
-    ensures { λ r. ⌜ r ≡ true ⌝ }
-{
-    refused(number);
-    left_of_list(list)
-}
-
-// A decode that was refused in a component: 0 is Y, 1 Cb, and any other Cr.
-pub fn refused_component(number: u32, component: u8, list: &[i32]) -> bool
-    ensures { λ r. ⌜ r ≡ true ⌝ }
-{
-    refused(number);
-    match component {
-        0 => put(b" y"),
-        1 => put(b" cb"),
-        _ => put(b" cr"),
-    }
-    left_of_list(list)
-}
-
-// A refused encode.
-pub fn refused_buffer(number: u32, buf: &[u8]) -> bool
-    ensures { λ r. ⌜ r ≡ true ⌝ }
-{
-    refused(number);
-    left_of_buffer(buf)
-}
-
-// An encode that was refused for want of room.
-pub fn no_room(needed: usize, buf: &[u8]) -> bool
-    ensures { λ r. ⌜ r ≡ true ⌝ }
-{
-    refused(3);
-    next(needed);
-    left_of_buffer(buf)
-}
-
-// The line's end. A line that is none of the cases has no answer yet, and gets one here.
-pub fn end(answered: bool) -> bool
-    ensures { λ r. ⌜ r ≡ answered ⌝ }
-{
-    if !answered {
-        put(b"bad line");
-    }
-    put(b"\n");
-    answered
+// The same of encoding.
+pub enum Encoded {
+    Done { bytes: usize, bits: usize },
+    Room { needed: usize }, // refusal 3
+    Refused(Refusal),
 }

@@ -8,11 +8,13 @@ use mathlib.Core.List.{List, [], _∷_}
 use lib.Dec.{eqb}
 use lib.ListN.{length, drop, length-drop}
 use Rattle.bitstream.specs.Bits.{field, bitsOf}
-use Rattle.bitstream.specs.Reading.{got, refused, Reader, readField, readBits}
-use Rattle.bitstream.specs.Machine.{Step, refuses}
-use Rattle.bitstream.specs.Told.{Placed, numberOf, gives, told, outcome, outcomeAt}
+use Rattle.answers.specs.Reading.{got, refused, Reader}
+use Rattle.bitstream.specs.Reading.{readField, readBits}
+use Rattle.answers.specs.Machine.{Step, refuses}
+use Rattle.bitstream.specs.Told.{InPayload, gives, toldRead, outcome, outcomeAt}
+use Rattle.answers.specs.Refusals.{numberOf}
 use Rattle.bitstream.specs.declared.Cursor.{Cursor}
-use Rattle.bitstream.specs.declared.Refusal.{Refusal}
+use Rattle.answers.specs.declared.Refusal.{Refusal}
 use Rattle.bitstream.specs.declared.Read.{Read}
 use Rattle.bitstream.specs.declared.Read.the-variants.{Value, No}
 use Rattle.bitstream.proofs.ReadLaws.{Local, readField-short, readField-all, readBits-field, field-readField, readBits-local, outcomeAt-fits, told-got, told-refused}
@@ -20,30 +22,30 @@ use Rattle.bitstream.proofs.ReadLaws.{Local, readField-short, readField
 -- ---- the reader m at bit `at`
 
 -- what it gives and how many bits it takes, as an answer says it
-pub told-taken : (m : Reader) (p : List ℕ) (at : ℕ) → Placed p at → (v k : ℕ) → m (drop at (bitsOf p)) ≡ got v (drop k (drop at (bitsOf p)))
+pub told-taken : (m : Reader) (p : List ℕ) (at : ℕ) → InPayload p at → (v k : ℕ) → m (drop at (bitsOf p)) ≡ got v (drop k (drop at (bitsOf p)))
     → k ≤ length (drop at (bitsOf p)) → gives v (at + k) ≡ outcomeAt m p at
 told-taken m p at pl v k e h =
     let bs : List Bool = drop at (bitsOf p) in
     let n : at + (length bs - length (drop k bs)) ≡ at + k = omega (arith, length-drop k bs) in
     sym (outcomeAt-fits m p at (pl .fits) ∙ ap (outcome at bs) e ∙ ap (gives v) n)
 
-module _ (m : Reader) (p : List ℕ) (at : ℕ) (r : Read) (pl : Placed p at) (e : told r ≡ outcomeAt m p at) where
+module _ (m : Reader) (p : List ℕ) (at : ℕ) (r : Read) (pl : InPayload p at) (e : toldRead r ≡ outcomeAt m p at) where
   pub read-no : (why : Refusal) → r ≡ No why → m (drop at (bitsOf p)) ≡ refused (numberOf why)
-  read-no why q = told-refused m p at (pl .fits) (numberOf why) (ap told (sym q) ∙ e)
+  read-no why q = told-refused m p at (pl .fits) (numberOf why) (ap toldRead (sym q) ∙ e)
 
   module _ (local : Local m) (v : ℕ) (c : Cursor) (q : r ≡ Value v c) where
     taken : (m (drop at (bitsOf p)) ≡ got v (drop (c .at) (bitsOf p))) × (at ≤ c .at) × (c .at - at ≤ length (drop at (bitsOf p)))
-    taken = told-got m p at local (pl .fits) v (c .at) (ap told (sym q) ∙ e)
+    taken = told-got m p at local (pl .fits) v (c .at) (ap toldRead (sym q) ∙ e)
 
     pub read-got : m (drop at (bitsOf p)) ≡ got v (drop (c .at) (bitsOf p))
     read-got = taken .0
 
-    pub read-placed : Placed p (c .at)
+    pub read-placed : InPayload p (c .at)
     read-placed = record { fits = pl .fits; within = omega (arith, taken .1, taken .2, length-drop at (bitsOf p), pl .within) }
 
 -- ---- a field of w bits
 
-module _ (p : List ℕ) (at w : ℕ) (r : Read) (pl : Placed p at) (narrow : w ≤ 32) (e : told r ≡ outcomeAt (readBits w) p at) where
+module _ (p : List ℕ) (at w : ℕ) (r : Read) (pl : InPayload p at) (narrow : w ≤ 32) (e : toldRead r ≡ outcomeAt (readBits w) p at) where
   abbrev bs : List Bool
   bs = drop at (bitsOf p)
 
@@ -57,7 +59,7 @@ module _ (p : List ℕ) (at w : ℕ) (r : Read) (pl : Placed p at) (narrow : w �
     pub field-lt : v < 2 ^ w
     field-lt = field-readField w bs v (drop (c .at) (bitsOf p)) field-got .1
 
-    pub field-placed : Placed p (c .at)
+    pub field-placed : InPayload p (c .at)
     field-placed = read-placed (readBits w) p at r pl e (readBits-local w) v c q
 
 -- ---- a bit
@@ -78,7 +80,7 @@ bit-some bs v t e =
     let x : v / 2 ^ 0 % 2 ≡ v = omega arith in
     f .0 ∙ ap (λ (n : ℕ). eqb n 1 ∷ t) x
 
-module _ (p : List ℕ) (at : ℕ) (r : Read) (pl : Placed p at) (e : told r ≡ outcomeAt (readBits 1) p at) where
+module _ (p : List ℕ) (at : ℕ) (r : Read) (pl : InPayload p at) (e : toldRead r ≡ outcomeAt (readBits 1) p at) where
   -- a step that wants a bit is refused where there is none
   pub bit-no : {S O : Type 0} (why : Refusal) → r ≡ No why → (f : List Bool → Step S O) → f [] ≡ refuses 5 → f (drop at (bitsOf p)) ≡ refuses (numberOf why)
   bit-no why q f none =
@@ -89,5 +91,5 @@ module _ (p : List ℕ) (at : ℕ) (r : Read) (pl : Placed p at) (e : told r ≡
     pub bit-got : drop at (bitsOf p) ≡ eqb v 1 ∷ drop (c .at) (bitsOf p)
     bit-got = bit-some (drop at (bitsOf p)) v (drop (c .at) (bitsOf p)) (field-got p at 1 r pl (omega arith) e v c q)
 
-    pub bit-placed : Placed p (c .at)
+    pub bit-placed : InPayload p (c .at)
     bit-placed = field-placed p at 1 r pl (omega arith) e v c q

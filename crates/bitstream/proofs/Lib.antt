@@ -1,12 +1,12 @@
 pub mod FieldLaws
 pub mod BitsLaws
 pub mod BytesLaws
+pub mod WrittenLaws
 pub mod PutLaws
 pub mod DoingLaws
 pub mod ReadLaws
 pub mod AnswerLaws
 pub mod PlaceLaws
-pub mod MachineLaws
 pub mod Unique
 pub mod Examples
 pub mod WindowLaws

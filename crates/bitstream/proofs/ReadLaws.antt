@@ -13,7 +13,8 @@ use lib.Pow.{shr-lt}
 use lib.Seq.{take-at, drop-at, length-take-le, drop-cons, drop-append-seam, drop-drop}
 use borrow.Author.Tests.{le-leb, lt-leb}
 use Rattle.bitstream.specs.Bits.{odd, field, number, bitsOf, zeros}
-use Rattle.bitstream.specs.Reading.{Parsed, got, refused, Reader, after, _then_, readField, readBits, oneMore, zeroPrefix}
+use Rattle.answers.specs.Reading.{Parsed, got, refused, Reader, after, _then_}
+use Rattle.bitstream.specs.Reading.{readField, readBits, oneMore, zeroPrefix}
 use Rattle.bitstream.specs.Told.{payloadLimit, Outcome, gives, refusal, outcome, within, outcomeAt}
 use Rattle.bitstream.proofs.FieldLaws.{length-field, field-split, number-field, number-lt, field-number}
 

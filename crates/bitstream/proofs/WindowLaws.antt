@@ -14,7 +14,7 @@ use lib.Pow as P
 use lib.Pow.{pow-pos, shl-shr, shr-shr, high, low}
 use Rattle.common.proofs.Numbers.{shl-mod}
 use Rattle.bitstream.specs.Bits.{field, number, zeros}
-use Rattle.bitstream.specs.Reading.{got}
+use Rattle.answers.specs.Reading.{got}
 use Rattle.bitstream.specs.Windows.{Shows}
 use Rattle.bitstream.proofs.FieldLaws.{field-widen, number-lt, field-number, number-append, number-take}
 use Rattle.bitstream.proofs.ReadLaws.{readField-all}

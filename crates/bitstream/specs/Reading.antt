@@ -1,27 +1,11 @@
--- What reading is. Document 01, "Bits", and of "Codewords" what is said of the bits alone. A reader takes the bits that are unread, and gives
--- a value and the bits that are then unread, or the number of a refusal.
+-- What reading is. Document 01, "Bits", and of "Codewords" what is said of the bits alone.
 use Prim.Native.Nat.{ℕ, zero, suc}
-use mathlib.Core.Bool.{Bool, true, false, cond}
-use mathlib.Core.List.{List, [], _∷_}
+use mathlib.Core.Bool.{true, false, cond}
+use mathlib.Core.List.{[], _∷_}
 use lib.Dec.{leb}
 use lib.ListN.{length, take, drop}
+use Rattle.answers.specs.Reading.{Parsed, got, refused, Reader}
 use Rattle.bitstream.specs.Bits.{number}
-
-pub data Parsed : Type 0 where
-  got : ℕ → List Bool → Parsed
-  refused : ℕ → Parsed
-
-abbrev pub Reader : Type 0
-Reader = List Bool → Parsed
-
--- what is read next may depend on the value
-abbrev pub after : Parsed → (ℕ → Reader) → Parsed
-after (got v rest) f = f v rest
-after (refused k) f = refused k
-
-infixl 20 _then_
-abbrev pub _then_ : Reader → (ℕ → Reader) → Reader
-_then_ m f bs = after (m bs) f
 
 -- a field of n bits
 unfoldable pub readField : ℕ → Reader

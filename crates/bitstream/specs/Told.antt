@@ -5,9 +5,8 @@ use mathlib.Core.List.{List}
 use lib.Dec.{leb}
 use lib.ListN.{length, drop}
 use Rattle.bitstream.specs.Bits.{bitsOf}
-use Rattle.bitstream.specs.Reading.{Parsed, got, refused, Reader}
-use Rattle.bitstream.specs.declared.Refusal.{Refusal}
-use Rattle.bitstream.specs.declared.Refusal.the-variants.{Limit, Length, Value as BadValue, Short, Codeword, Overrun, Range, LongRun, AlphaOverrun, Tail, Padding, Selector}
+use Rattle.answers.specs.Reading.{Parsed, got, refused, Reader}
+use Rattle.answers.specs.Refusals.{numberOf}
 use Rattle.bitstream.specs.declared.Read.{Read}
 use Rattle.bitstream.specs.declared.Read.the-variants.{Value, No}
 
@@ -16,32 +15,18 @@ abbrev pub payloadLimit : ℕ
 payloadLimit = 65536
 
 -- a bit of such a payload, or its end
-pub record Placed (p : List ℕ) (at : ℕ) : Type 0 where
+pub record InPayload (p : List ℕ) (at : ℕ) : Type 0 where
   pub fits : length p ≤ payloadLimit
   pub within : at ≤ length (bitsOf p)
-
-abbrev pub numberOf : Refusal → ℕ
-numberOf Limit = 1
-numberOf Length = 2
-numberOf BadValue = 4
-numberOf Short = 5
-numberOf Codeword = 6
-numberOf Overrun = 7
-numberOf Range = 8
-numberOf LongRun = 9
-numberOf AlphaOverrun = 10
-numberOf Tail = 11
-numberOf Padding = 12
-numberOf Selector = 13
 
 -- a value and the bit after it, or the number of a refusal
 pub data Outcome : Type 0 where
   gives : ℕ → ℕ → Outcome
   refusal : ℕ → Outcome
 
-abbrev pub told : Read → Outcome
-told (Value v c) = gives v (c .at)
-told (No r) = refusal (numberOf r)
+abbrev pub toldRead : Read → Outcome
+toldRead (Value v c) = gives v (c .at)
+toldRead (No r) = refusal (numberOf r)
 
 -- reading began at bit p, where bs was unread
 abbrev pub outcome : ℕ → List Bool → Parsed → Outcome

@@ -3,17 +3,17 @@
 use mathlib.Core.Path.{_≡_, sym, ap, _∙_}
 use mathlib.Core.List.{List}
 use Prim.Native.Nat.{ℕ}
-use Rattle.elements.specs.Answers.{DecodeAnswer, Encoding}
-use Rattle.numbers.specs.Numbers.{decodeNumbers, encodeNumbers}
-use Rattle.numbers.specs.declared.DecodeNumbers.{DecodeNumbers}
-use Rattle.numbers.specs.declared.EncodeNumbers.{EncodeNumbers}
-use Rattle.numbers.specs.declared.slices.EncodeNumbers.{EncodeNumbers as SliceEncodeNumbers}
-use Rattle.numbers.specs.declared.slices.DecodeNumbers.{DecodeNumbers as SliceDecodeNumbers}
-use Rattle.components.specs.declared.Code.{Code}
+use Rattle.answers.specs.Answers.{DecodeAnswer, Encoding, Size}
+use Rattle.cart_numbers.specs.Numbers.{decodeNumbers, encodeNumbers}
+use Rattle.cart_numbers.specs.declared.DecodeNumbers.{DecodeNumbers}
+use Rattle.cart_numbers.specs.declared.EncodeNumbers.{EncodeNumbers}
+use Rattle.cart_numbers.specs.declared.slices.SliceEncodeNumbers.{SliceEncodeNumbers}
+use Rattle.cart_numbers.specs.declared.slices.SliceDecodeNumbers.{SliceDecodeNumbers}
+use Rattle.slice_shape.specs.declared.Code.{Code}
 use Rattle.quant.specs.declared.QuantMatrices.{QuantMatrices}
 use Rattle.cart.specs.Matrices.{pairOf}
 
-pub encode-unique : (x : Encoding) {r r′ n n′ m m′ : ℕ} {b b′ : List ℕ} → b ≡ x .buffer → b′ ≡ x .buffer
+pub encode-unique : (x : Encoding Size) {r r′ n n′ m m′ : ℕ} {b b′ : List ℕ} → b ≡ x .buffer → b′ ≡ x .buffer
     → record { result = r; bytes = n; bits = m } ≡ encodeNumbers (x .answer) → record { result = r′; bytes = n′; bits = m′ } ≡ encodeNumbers (x .answer)
     → (r ≡ r′) × (n ≡ n′) × (m ≡ m′) × (b ≡ b′)
 encode-unique x e e′ f f′ =

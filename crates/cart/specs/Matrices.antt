@@ -2,7 +2,7 @@
 use Prim.Native.Nat.{ℕ}
 use mathlib.Core.List.{List}
 use Rattle.quant.specs.declared.QuantMatrices.{QuantMatrices}
-use Rattle.quant.specs.Weights.{BlendAnswer, blends, refuses, Blending}
+use Rattle.quant.specs.Weights.{BlendAnswer, blends, noBlend, Blending}
 
 -- two tables as a pair
 abbrev pub pairOf : List ℕ → List ℕ → QuantMatrices
@@ -11,11 +11,11 @@ pairOf l c = record { luma = l; chroma = c }
 -- a blend's result, and the tables after it: where it is refused, they are as they were
 abbrev pub blendResult : BlendAnswer → ℕ
 blendResult blends = 0
-blendResult (refuses k) = k
+blendResult (noBlend k) = k
 
-abbrev pub blendPair : Blending → QuantMatrices → QuantMatrices
-blendPair b old = go (b .answer)
+abbrev pub blendedPair : Blending → QuantMatrices → QuantMatrices
+blendedPair b old = go (b .answer)
   where
     go : BlendAnswer → QuantMatrices
     go blends = b .pair
-    go (refuses k) = old
+    go (noBlend k) = old

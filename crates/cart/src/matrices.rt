@@ -1,8 +1,8 @@
 // Weight matrices, and the scale of an index.
 ghost use mathlib.Core.Path.{_≡_};
 ghost use Rattle.quant.specs.Weights.{flatPair, perceptualPair, proxyPair, ltPair, standardPair, hqPair, weightsValid, loadLuma, loadChroma, blendOf, qscaleOf};
-ghost use Rattle.numbers.specs.Numbers.{flagOf};
-ghost use Rattle.cart.specs.Matrices.{pairOf, blendResult, blendPair};
+ghost use Rattle.bitstream.specs.Bits.{val};
+ghost use Rattle.cart.specs.Matrices.{pairOf, blendResult, blendedPair};
 use quant::Choice;
 use quant::QuantMatrices;
 
@@ -78,7 +78,7 @@ pub extern "C" fn cart_signature_hq(luma: &mut [u8; 64], chroma: &mut [u8; 64]) 
 #[no_mangle]
 pub extern "C" fn cart_blend(number: u64, luma: &mut [u8; 64], chroma: &mut [u8; 64]) -> u32
     ensures result { λ r. ⌜ r ≡ blendResult (blendOf number .answer) ⌝ }
-    ensures pair { λ _. ⌜ pairOf (now (luma .exit)) (now (chroma .exit)) ≡ blendPair (blendOf number) (pairOf (now (luma .entry)) (now (chroma .entry))) ⌝ }
+    ensures pair { λ _. ⌜ pairOf (now (luma .exit)) (now (chroma .exit)) ≡ blendedPair (blendOf number) (pairOf (now (luma .entry)) (now (chroma .entry))) ⌝ }
 {
     let blend = QuantMatrices::blend(number as usize);
     let choice = blend.choice;
@@ -98,9 +98,9 @@ pub extern "C" fn cart_matrix_flags(
     load_chroma: &mut u64,
 ) -> u32
     ensures result { λ r. ⌜ r ≡ 0 ⌝ }
-    ensures valid { λ _. ⌜ now (valid .exit) ≡ flagOf (weightsValid (pairOf (now (luma .entry)) (now (chroma .entry)))) ⌝ }
-    ensures luma { λ _. ⌜ now («load_luma» .exit) ≡ flagOf (loadLuma (pairOf (now (luma .entry)) (now (chroma .entry)))) ⌝ }
-    ensures chroma { λ _. ⌜ now («load_chroma» .exit) ≡ flagOf (loadChroma (pairOf (now (luma .entry)) (now (chroma .entry)))) ⌝ }
+    ensures valid { λ _. ⌜ now (valid .exit) ≡ val (weightsValid (pairOf (now (luma .entry)) (now (chroma .entry)))) ⌝ }
+    ensures luma { λ _. ⌜ now («load_luma» .exit) ≡ val (loadLuma (pairOf (now (luma .entry)) (now (chroma .entry)))) ⌝ }
+    ensures chroma { λ _. ⌜ now («load_chroma» .exit) ≡ val (loadChroma (pairOf (now (luma .entry)) (now (chroma .entry)))) ⌝ }
 {
     let l = *luma;
     let c = *chroma;

@@ -1,8 +1,8 @@
 // Slices. Blocks are bytes, four for each coefficient.
 ghost use mathlib.Core.Path.{_≡_};
-ghost use Rattle.numbers.specs.Slices.{encodeNumbers, decodeNumbers};
-ghost use Rattle.slice_bytes.specs.SliceBytes.{encodeBytesOf, decodeBytesOf};
-use numbers::slices;
+ghost use Rattle.cart_numbers.specs.Slices.{encodeSliceNumbers, decodeSliceNumbers};
+ghost use Rattle.cart_slice.specs.SliceBytes.{encodeSliceBytesOf, decodeSliceBytesOf};
+use cart_numbers::slices;
 
 #[no_mangle]
 pub extern "C" fn cart_encode_slice(
@@ -19,14 +19,14 @@ pub extern "C" fn cart_encode_slice(
     cr_bits: &mut u64,
     needed: &mut u64,
 ) -> u32
-    ensures result { λ r. ⌜ r ≡ encodeNumbers (encodeBytesOf (now (blocks .entry)) macroblocks chroma scan (now (out .entry)) .answer) .result ⌝ }
-    ensures buffer { λ _. ⌜ now (out .exit) ≡ encodeBytesOf (now (blocks .entry)) macroblocks chroma scan (now (out .entry)) .buffer ⌝ }
-    ensures y { λ _. ⌜ record { bytes = now («y_bytes» .exit); bits = now («y_bits» .exit) } ≡ encodeNumbers (encodeBytesOf (now (blocks .entry)) macroblocks chroma scan (now (out .entry)) .answer) .y ⌝ }
-    ensures cb { λ _. ⌜ record { bytes = now («cb_bytes» .exit); bits = now («cb_bits» .exit) } ≡ encodeNumbers (encodeBytesOf (now (blocks .entry)) macroblocks chroma scan (now (out .entry)) .answer) .cb ⌝ }
-    ensures cr { λ _. ⌜ record { bytes = now («cr_bytes» .exit); bits = now («cr_bits» .exit) } ≡ encodeNumbers (encodeBytesOf (now (blocks .entry)) macroblocks chroma scan (now (out .entry)) .answer) .cr ⌝ }
-    ensures needed { λ _. ⌜ now (needed .exit) ≡ encodeNumbers (encodeBytesOf (now (blocks .entry)) macroblocks chroma scan (now (out .entry)) .answer) .needed ⌝ }
+    ensures result { λ r. ⌜ r ≡ encodeSliceNumbers (encodeSliceBytesOf (now (blocks .entry)) macroblocks chroma scan (now (out .entry)) .answer) .result ⌝ }
+    ensures buffer { λ _. ⌜ now (out .exit) ≡ encodeSliceBytesOf (now (blocks .entry)) macroblocks chroma scan (now (out .entry)) .buffer ⌝ }
+    ensures y { λ _. ⌜ record { bytes = now («y_bytes» .exit); bits = now («y_bits» .exit) } ≡ encodeSliceNumbers (encodeSliceBytesOf (now (blocks .entry)) macroblocks chroma scan (now (out .entry)) .answer) .y ⌝ }
+    ensures cb { λ _. ⌜ record { bytes = now («cb_bytes» .exit); bits = now («cb_bits» .exit) } ≡ encodeSliceNumbers (encodeSliceBytesOf (now (blocks .entry)) macroblocks chroma scan (now (out .entry)) .answer) .cb ⌝ }
+    ensures cr { λ _. ⌜ record { bytes = now («cr_bytes» .exit); bits = now («cr_bits» .exit) } ≡ encodeSliceNumbers (encodeSliceBytesOf (now (blocks .entry)) macroblocks chroma scan (now (out .entry)) .answer) .cr ⌝ }
+    ensures needed { λ _. ⌜ now (needed .exit) ≡ encodeSliceNumbers (encodeSliceBytesOf (now (blocks .entry)) macroblocks chroma scan (now (out .entry)) .answer) .needed ⌝ }
 {
-    let numbers = slices::encode_numbers(slice_bytes::encode(
+    let numbers = slices::encode_numbers(cart_slice::encode(
         blocks,
         macroblocks as usize,
         chroma as usize,
@@ -60,10 +60,10 @@ pub extern "C" fn cart_decode_slice(
     cb_bits: &mut u64,
     cr_bits: &mut u64,
 ) -> u32
-    ensures bytes { λ _. ⌜ now (blocks .exit) ≡ decodeBytesOf (now (y .entry)) (now (cb .entry)) (now (cr .entry)) macroblocks chroma scan (now (blocks .entry)) .bytes ⌝ }
-    ensures numbers { λ r. ⌜ record { result = r; component = now (component .exit); y = now («y_bits» .exit); cb = now («cb_bits» .exit); cr = now («cr_bits» .exit) } ≡ decodeNumbers (decodeBytesOf (now (y .entry)) (now (cb .entry)) (now (cr .entry)) macroblocks chroma scan (now (blocks .entry)) .answer) ⌝ }
+    ensures bytes { λ _. ⌜ now (blocks .exit) ≡ decodeSliceBytesOf (now (y .entry)) (now (cb .entry)) (now (cr .entry)) macroblocks chroma scan (now (blocks .entry)) .bytes ⌝ }
+    ensures numbers { λ r. ⌜ record { result = r; component = now (component .exit); y = now («y_bits» .exit); cb = now («cb_bits» .exit); cr = now («cr_bits» .exit) } ≡ decodeSliceNumbers (decodeSliceBytesOf (now (y .entry)) (now (cb .entry)) (now (cr .entry)) macroblocks chroma scan (now (blocks .entry)) .answer) ⌝ }
 {
-    let numbers = slices::decode_numbers(slice_bytes::decode(
+    let numbers = slices::decode_numbers(cart_slice::decode(
         y,
         cb,
         cr,

@@ -8,7 +8,8 @@ use native.Mathlib.Omega.{arith}
 use native.Mathlib.Decide.{decLe}
 use lib.ListN.{length, drop}
 use Rattle.bitstream.specs.Bits.{bitsOf}
-use Rattle.bitstream.specs.Reading.{Parsed, Reader, readBits, zeroPrefix}
+use Rattle.answers.specs.Reading.{Parsed, Reader}
+use Rattle.bitstream.specs.Reading.{readBits, zeroPrefix}
 use Rattle.bitstream.specs.Told.{payloadLimit, gives, refusal, outcome, outcomeAt}
 use Rattle.bitstream.proofs.ReadLaws.{readBits-local, zeroPrefix-local, zeros-zeroPrefix, outcomeAt-fits, outcomeAt-long, told-got, told-after, told-stop}
 use Rattle.codeword.specs.Codewords.{limit, symbol, suffix, readSuffix, readCode}

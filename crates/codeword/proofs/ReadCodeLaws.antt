@@ -8,7 +8,8 @@ use native.Mathlib.Omega.{arith}
 use native.Mathlib.Decide.{decLe}
 use borrow.Author.Tests.{lt-ltb, le-ltb}
 use Rattle.bitstream.specs.Bits.{field, zeros}
-use Rattle.bitstream.specs.Reading.{Parsed, got, refused, Reader, after, readBits, zeroPrefix}
+use Rattle.answers.specs.Reading.{Parsed, got, refused, Reader, after}
+use Rattle.bitstream.specs.Reading.{readBits, zeroPrefix}
 use Rattle.bitstream.proofs.ReadLaws.{Local, readBits-wide, readBits-field, readField-field, field-readField, zeroPrefix-zeros, zeros-zeroPrefix, readBits-local, zeroPrefix-local, bind-local}
 use Rattle.codeword.specs.Codewords.{code, limit, width, base, symbol, suffix, readSuffix, readCode}
 use Rattle.codeword.specs.declared.Codebook.{Codebook}

@@ -6,7 +6,8 @@ use mathlib.Core.List.{List, _∷_, _++_}
 use lib.Dec.{leb, ltb}
 use lib.Count.{leadingZeros}
 use Rattle.bitstream.specs.Bits.{field, zeros}
-use Rattle.bitstream.specs.Reading.{got, refused, Reader, readBits, zeroPrefix, _then_}
+use Rattle.answers.specs.Reading.{got, refused, Reader, _then_}
+use Rattle.bitstream.specs.Reading.{readBits, zeroPrefix}
 use Rattle.codeword.specs.declared.Codebook.{Codebook}
 use Rattle.codeword.specs.declared.Codebook.the-variants.{ExpGolomb, RiceExp}
 

@@ -1,9 +1,5 @@
--- A codeword as one field: the len low bits of a number.
-use Prim.Native.Nat.{ℕ, _+_, _^_, _≤_, _<_}
-use mathlib.Core.Path.{_≡_}
-use mathlib.Core.Bool.{Bool}
-use mathlib.Core.List.{List, [], _∷_, _++_}
-use Rattle.bitstream.specs.Bits.{field}
+-- The codebooks in use, whose codewords are one field each.
+use Prim.Native.Nat.{_≤_}
 use Rattle.codeword.specs.declared.Codebook.{Codebook}
 use Rattle.codeword.specs.declared.Codebook.the-variants.{ExpGolomb, RiceExp}
 
@@ -11,27 +7,3 @@ use Rattle.codeword.specs.declared.Codebook.the-variants.{ExpGolomb, Ric
 abbrev pub InUse : Codebook → Type 0
 InUse (ExpGolomb k) = k ≤ 5
 InUse (RiceExp q r e) = (q ≤ 2) × (r ≤ 2) × (e ≤ 3)
-
--- value has its 1 within 33 bits, and all in front of it are zeros
-pub record Spells (bits : List Bool) (len value : ℕ) : Type 0 where
-  pub is : field len value ≡ bits
-  pub fits : value < 2 ^ len
-  pub small : value < 2 ^ 33
-  pub short : len ≤ 68
-
--- the word of len′ and value′ is that of len and value with one bit more behind it
-pub record OneMore (len value : ℕ) (bit : Bool) (len′ value′ : ℕ) : Type 0 where
-  pub is : field len′ value′ ≡ field len value ++ bit ∷ []
-  pub count : len′ ≡ len + 1
-  pub fits : value′ < 2 ^ len′
-  pub small : value′ < 2 ^ 34
-
--- the bits are the len low bits of value, which put::put_word takes
-pub record WordOf (bits : List Bool) (len value : ℕ) : Type 0 where
-  pub is : field len value ≡ bits
-  pub fits : value < 2 ^ len
-  pub small : value < 2 ^ 34
-  pub short : len ≤ 69
-
-abbrev pub IsWord : ℕ → ℕ → Type 0
-IsWord len value = WordOf (field len value) len value

@@ -1,15 +1,15 @@
 // Codewords: document 01, section Codewords; the first half of entropy.rs.
 ghost use mathlib.Core.Path.{_≡_};
-ghost use Rattle.bitstream.specs.Told.{told, outcomeAt};
+ghost use Rattle.bitstream.specs.Told.{toldRead, outcomeAt};
 ghost use Rattle.codeword.specs.Codewords.{code, readCode};
 ghost use Rattle.codeword.specs.Words.{InUse};
-ghost use Rattle.codeword.specs.Words.{Spells};
+ghost use Rattle.bitstream_writer.specs.Words.{Spells};
 use bitstream::Cursor;
 use bitstream::Read;
+use bitstream_writer::Word;
 
 mod read; // a codeword at a cursor
 pub mod words; // a codeword as one field
-pub mod put; // a codeword into a buffer
 
 pub enum Codebook {
     ExpGolomb(u32),
@@ -20,16 +20,10 @@ pub enum Codebook {
     },
 }
 
-// A codeword: the len low bits of bits.
-pub struct Word {
-    pub len: u32,
-    pub bits: u64,
-}
-
 impl Codebook {
     // The symbol at a cursor. Every parameter is answered, and none can overflow.
     pub fn read(self, payload: &[u8], c: Cursor) -> Read
-        ensures { λ r. ⌜ told r ≡ outcomeAt (readCode self) (now (payload .entry)) (c .at) ⌝ }
+        ensures { λ r. ⌜ toldRead r ≡ outcomeAt (readCode self) (now (payload .entry)) (c .at) ⌝ }
     {
         match self {
             Codebook::ExpGolomb(k) => read::read_exp_golomb(payload, c, k),

@@ -1,9 +1,9 @@
 // A codeword as one field, whatever its kind: the zeros in front only widen it.
-ghost use Prim.Native.Nat.{_≤_, _<_, _^_};
+ghost use Prim.Native.Nat.{_≤_, _<_};
 ghost use mathlib.Core.Path.{_≡_};
 ghost use Rattle.codeword.specs.Codewords.{log2, expGolomb, combo};
-ghost use Rattle.codeword.specs.Words.{Spells, OneMore};
-use crate::Word;
+ghost use Rattle.bitstream_writer.specs.Words.{Spells};
+use bitstream_writer::Word;
 
 // floor(log2 x)
 fn log2_of(x: u64) -> u32
@@ -42,16 +42,5 @@ pub fn combo_word(last_q: u32, r: u32, e: u32, n: u32) -> Word
     Word {
         len: last_q + 1 + w.len,
         bits: w.bits,
-    }
-}
-
-// A word with one bit more behind it: a level with its sign.
-pub fn with_bit(w: Word, bit: bool) -> Word
-    requires { ⌜ (w .len ≤ 68) × (w .bits < 2 ^ 33) × (w .bits < 2 ^ w .len) ⌝ }
-    ensures { λ r. ⌜ OneMore (w .len) (w .bits) bit (r .len) (r .bits) ⌝ }
-{
-    Word {
-        len: w.len + 1,
-        bits: 2 * w.bits + bit as u64,
     }
 }

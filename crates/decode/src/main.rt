@@ -3,12 +3,11 @@
 ghost use mathlib.Core.Path.{_≡_};
 ghost use Prim.Native.Nat.{_≤_};
 ghost use lib.ListN.{length};
-use elements::Decoded;
+ghost use Rattle.entropy_elements.specs.Limits.{listLimit};
+use answers::Decoded;
+use entropy_elements::arguments;
 use libc::STDIN_FILENO;
 use libc::STDOUT_FILENO;
-
-// The coefficients of 32 blocks, the most there are.
-const LIST_LIMIT: usize = 2048;
 
 fn put(text: &[u8]) {
     io::write_all(STDOUT_FILENO, text);
@@ -25,7 +24,7 @@ fn coefficient(value: i32) {
     if value < 0 {
         put(b"-");
     }
-    line(b"", signs::magnitude(value) as u64);
+    line(b"", codeword_signs::magnitude(value) as u64);
 }
 
 fn coefficients(list: &[i32]) {
@@ -54,16 +53,16 @@ fn decode_list(payload: &[u8], blocks: usize, list: &mut [i32]) {
 
 // The length of the list; too many blocks are refused whatever it is.
 fn list_len(blocks: usize) -> usize
-    ensures { λ r. ⌜ r ≤ 2048 ⌝ }
+    ensures { λ r. ⌜ r ≤ listLimit ⌝ }
 {
-    if 32 < blocks {
+    if arguments::BLOCK_LIMIT < blocks {
         return 0;
     }
     64 * blocks
 }
 
 fn decode(payload: &[u8], blocks: usize, list: &mut [i32])
-    requires { ⌜ length (now list) ≡ 2048 ⌝ }
+    requires { ⌜ length (now list) ≡ listLimit ⌝ }
 {
     let n = list_len(blocks);
     decode_list(payload, blocks, &mut list[..n]);
@@ -71,7 +70,7 @@ fn decode(payload: &[u8], blocks: usize, list: &mut [i32])
 
 // The first n bytes of what was read.
 fn decode_first(read: &[u8], n: usize, blocks: usize) {
-    let mut list = [0i32; LIST_LIMIT];
+    let mut list = [0i32; arguments::LIST_LIMIT];
     if read.len() < n {
         return;
     }

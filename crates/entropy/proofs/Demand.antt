@@ -7,27 +7,27 @@ use native.Mathlib.Omega.{arith}
 use mathlib.Core.Path.{_≡_, refl, sym, ap, ap₂, _∙_}
 use mathlib.Core.Bool.{Bool, true, _&&_}
 use mathlib.Core.List.{List, [], _∷_, _++_, append-assoc, append-nil}
-use lib.IntN.{ℤ}
+use lib.IntN.{ℤ, pos}
 use lib.ListN.{length, take, replicate, length-append}
 use lib.Pow.{pow-mono}
 use Rattle.bitstream.specs.Bits.{field, bitsOf, zeros, ended}
 use Rattle.bitstream.specs.Bytes.{bytesFor, pack, stored}
-use Rattle.bitstream.specs.Machine.{accepted}
+use Rattle.answers.specs.Machine.{accepted}
 use Rattle.bitstream.specs.Told.{payloadLimit}
 use Rattle.bitstream.proofs.BitsLaws.{bits-append}
 use Rattle.bitstream.proofs.BytesLaws.{bits-pack, length-pack, stored-payload}
 use Rattle.bitstream.proofs.PlaceLaws.{ended-append, ended-zeros}
-use Rattle.elements.specs.Elements.{size, elementsOf, encode}
-use Rattle.elements.specs.Limits.{inRange}
-use Rattle.elements.specs.Decoding.{decode, OutC}
-use Rattle.elements.specs.Limits.{blockLimit}
-use Rattle.elements.specs.Answers.{decoding, read, settled, decodeOf, Encoding, encoding, wrote, needs, encodeOf}
-use Rattle.elements.proofs.RoundTrip.{Small, decode-encode}
-use Rattle.elements.proofs.SizeLaws.{Below, encode-length, size-le}
-use Rattle.elements.specs.Limits.{Fine}
-use Rattle.elements.proofs.RangeLaws.{inRange-small}
-use Rattle.entropy.proofs.DecodeLaws.{decodeOf-fits}
-use Rattle.entropy.proofs.EncodeLaws.{encode-room, encode-done}
+use Rattle.entropy_elements.specs.Elements.{size, elementsOf, encode}
+use Rattle.entropy_elements.specs.Limits.{inRange, blockLimit, Encodable}
+use Rattle.entropy_elements.specs.Decoding.{decode, OutC}
+use Rattle.answers.specs.Answers.{decoding, read, settled, Encoding, encoding, wrote, needs, Size}
+use Rattle.entropy_elements.specs.Answers.{decodeOf, encodeOf}
+use Rattle.entropy_elements.proofs.RoundTrip.{Small, decode-encode}
+use Rattle.entropy_elements.proofs.SizeLaws.{Below, encode-length, size-le}
+use Rattle.entropy_elements.proofs.RangeLaws.{inRange-small}
+use Rattle.entropy_elements.proofs.ArgumentLaws.{decodeOf-fits}
+use Rattle.entropy.proofs.EncodeLaws.{writing-room, writing-done, encode-fits}
+use Rattle.bitstream.specs.Written.{sizeOf}
 
 -- the coefficients of b blocks, each below 2^w
 pub record Given (b w : ℕ) (cs : List ℤ) : Type 0 where
@@ -43,8 +43,8 @@ below-small w (c ∷ cs) h b = let p : 2 ^ w ≤ 2 ^ 29 = pow-mono {j = 29} h in
 pub below-inRange : (w : ℕ) (cs : List ℤ) → w ≤ 29 → Below w cs → inRange cs ≡ true
 below-inRange w cs h b = inRange-small cs (below-small w cs h b)
 
-below-limit : (b w : ℕ) → b ≤ 32 → w ≤ 29 → 8 * b * (2 * w + 5) ≤ 8 * 32 * (2 * 29 + 5)
-below-limit b w hb hw = mul-le-mul {n₁ = 8 * b} {m₁ = 2 * w + 5} {n₂ = 8 * 32} {m₂ = 2 * 29 + 5} (omega arith) (omega arith)
+below-limit : (b w : ℕ) → b ≤ blockLimit → w ≤ 29 → 8 * b * (2 * w + 5) ≤ 8 * blockLimit * (2 * 29 + 5)
+below-limit b w hb hw = mul-le-mul {n₁ = 8 * b} {m₁ = 2 * w + 5} {n₂ = 8 * blockLimit} {m₂ = 2 * 29 + 5} (omega arith) (omega arith)
 
 zero-bytes : (k : ℕ) → ended (bitsOf (replicate k 0)) ≡ true
 unfolding bitsOf field ended
@@ -72,16 +72,16 @@ module _ (b w : ℕ) (cs : List ℤ) (g : Given b w cs) where
 
   -- ---- room
 
-  fine : Fine b cs
+  fine : Encodable b cs
   fine = record { few = g .blocks; full = g .all; small = below-inRange w cs (g .width) (g .below) }
 
   -- it is refused exactly if the buffer is shorter than those bytes, which are reported; the buffer is untouched
   pub room-none : (old : List ℕ) → length old < bytesFor (length (encode b cs)) → encodeOf cs b old ≡ encoding (needs (bytesFor (length (encode b cs)))) old
-  room-none old h = sym (encode-room old fine refl h)
+  room-none old h = encode-fits old fine ∙ sym (writing-room old fine refl h)
 
   pub room-enough : (old : List ℕ) → bytesFor (length (encode b cs)) ≤ length old
-      → encodeOf cs b old ≡ encoding (wrote (bytesFor (length (encode b cs))) (length (encode b cs))) (stored old (encode b cs))
-  room-enough old h = sym (encode-done old fine refl h refl refl)
+      → encodeOf cs b old ≡ encoding (wrote (sizeOf (encode b cs))) (stored old (encode b cs))
+  room-enough old h = encode-fits old fine ∙ sym (writing-done old fine refl h refl refl)
 
   -- ---- every coefficient comes back
 
@@ -99,7 +99,7 @@ module _ (b w : ℕ) (cs : List ℤ) (g : Given b w cs) where
       let back : decode b (bitsOf payload) ≡ accepted cs rest = ap (decode b) split ∙ decode-encode b cs rest (g .all) (omega (arith, g .blocks)) small over in
       let count : length (bitsOf payload) - length rest ≡ length code = omega (arith, ap length split ∙ length-append code rest) in
       decodeOf-fits payload b list (g .blocks) fits len
-      ∙ ap (λ (o : OutC). settled (bitsOf payload) (length list) o) back
+      ∙ ap (λ (o : OutC). settled (pos 0) (bitsOf payload) (64 * b) o) back
       ∙ ap (λ (n : ℕ). decoding (read n) cs) count
 
   -- what encode leaves in a buffer with room, whatever the buffer held and however long it is, decode reads back from its first bytes
@@ -108,6 +108,6 @@ module _ (b w : ℕ) (cs : List ℤ) (g : Given b w cs) where
   encode-decode old list room len =
       let code : List Bool = encode b cs in
       let first : take (bytesFor (length code)) (encodeOf cs b old .buffer) ≡ pack code ++ replicate 0 0 =
-      ap (λ (x : Encoding). take (bytesFor (length code)) (x .buffer)) (room-enough old room) ∙ stored-payload old code ∙ sym (append-nil (pack code)) in
+      ap (λ (x : Encoding Size). take (bytesFor (length code)) (x .buffer)) (room-enough old room) ∙ stored-payload old code ∙ sym (append-nil (pack code)) in
       ap (λ (p : List ℕ). decodeOf p b list) first
       ∙ bytes-back 0 list (omega (arith, length-append (pack code) (replicate 0 0), length-pack code, bytes-fit)) len

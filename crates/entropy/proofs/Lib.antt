@@ -1,3 +1,2 @@
-pub mod DecodeLaws
 pub mod EncodeLaws
 pub mod Demand

@@ -7,11 +7,11 @@ use lib.ListN.{length}
 use borrow.Author.Tests.{le-leb, lt-leb}
 use Rattle.bitstream.specs.Bytes.{bytesFor}
 use Rattle.bitstream.specs.Told.{payloadLimit, Outcome, gives, refusal}
-use Rattle.probe.specs.Bits.{resultOf, valueOf, nextOf, putOutcome, putBuffer, alignOutcome, Answers}
+use Rattle.probe.specs.Bits.{resultOf, valueOf, nextTold, putOutcome, putBuffer, alignOutcome, Answers}
 
 -- an answer that says what x says, where x is y
-pub answers-as : {x : Outcome} {r v n : ℕ} (y : Outcome) → Answers x r v n → x ≡ y → (r ≡ resultOf y) × ((v ≡ valueOf y) × (n ≡ nextOf y))
-answers-as y a e = (a .result-is ∙ ap resultOf e, (a .value-is ∙ ap valueOf e, a .next-is ∙ ap nextOf e))
+pub answers-as : {x : Outcome} {r v n : ℕ} (y : Outcome) → Answers x r v n → x ≡ y → (r ≡ resultOf y) × ((v ≡ valueOf y) × (n ≡ nextTold y))
+answers-as y a e = (a .result-is ∙ ap resultOf e, (a .value-is ∙ ap valueOf e, a .next-is ∙ ap nextTold e))
 
 module _ (buf : List ℕ) (at n : ℕ) where
   pub put-long : payloadLimit < length buf → putOutcome buf at n ≡ refusal 1
@@ -33,8 +33,8 @@ module _ (buf : List ℕ) (at n : ℕ) where
 
   -- what a put says and leaves, once its outcome is known
   pub put-as : (v : ℕ) {x : Outcome} → putOutcome buf at n ≡ x
-      → (resultOf x ≡ resultOf (putOutcome buf at n)) × ((nextOf x ≡ nextOf (putOutcome buf at n)) × (putBuffer x buf at n v ≡ putBuffer (putOutcome buf at n) buf at n v))
-  put-as v e = (ap resultOf (sym e), (ap nextOf (sym e), ap (λ (o : Outcome). putBuffer o buf at n v) (sym e)))
+      → (resultOf x ≡ resultOf (putOutcome buf at n)) × ((nextTold x ≡ nextTold (putOutcome buf at n)) × (putBuffer x buf at n v ≡ putBuffer (putOutcome buf at n) buf at n v))
+  put-as v e = (ap resultOf (sym e), (ap nextTold (sym e), ap (λ (o : Outcome). putBuffer o buf at n v) (sym e)))
 
 module _ (at : ℕ) where
   pub align-far : 8 * payloadLimit < at → alignOutcome at ≡ refusal 1

@@ -1,3 +1,3 @@
 pub mod BitLaws
-pub mod MatrixLaws
+pub mod TableLaws
 pub mod Unique

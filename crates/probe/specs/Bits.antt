@@ -18,9 +18,9 @@ abbrev pub valueOf : Outcome → ℕ
 valueOf (gives v p) = v
 valueOf (refusal k) = 0
 
-abbrev pub nextOf : Outcome → ℕ
-nextOf (gives v p) = p
-nextOf (refusal k) = 0
+abbrev pub nextTold : Outcome → ℕ
+nextTold (gives v p) = p
+nextTold (refusal k) = 0
 
 -- a field is put where it is at most 56 bits wide and there is room for it
 unfoldable pub putOutcome : List ℕ → ℕ → ℕ → Outcome
@@ -41,4 +41,4 @@ alignOutcome at = cond (leb at (8 * payloadLimit)) (gives 0 (8 * bytesFor at)) (
 pub record Answers (x : Outcome) (result value next : ℕ) : Type 0 where
   pub result-is : result ≡ resultOf x
   pub value-is : value ≡ valueOf x
-  pub next-is : next ≡ nextOf x
+  pub next-is : next ≡ nextTold x

@@ -1,7 +1,7 @@
-// The proved code as the comparison and the benchmark link it: numbers and slices only, one file for each coder. Every function answers 0 or
-// document 01's refusal number; the numbers that come back are 0 where a call is refused.
-mod alpha_coder;
+// What C and Rust link of the proved code beside `cart`, for the comparison and for the replay of stored cases: whatever the face for C does not pass
+// through, numbers and slices only. Every function answers 0 or document 01's refusal number; the numbers that come back are 0 where a call is refused.
 mod bits; // the bit layer
-mod coefficients; // the scanned coefficient coder
-mod matrices; // weights, block scans, the scale of an index
-mod slices; // the slice coder
+mod codewords; // a codeword of any codebook
+mod reader; // the reader object
+mod selectors; // what a chroma format and an alpha kind are
+mod tables; // the block scans, and whether a pair of matrices is the flat one

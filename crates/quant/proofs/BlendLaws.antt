@@ -13,7 +13,7 @@ use lib.Seq.{take-all, take-suc-set, append-snoc}
 use borrow.Author.Tests.{le-leb, lt-leb, leb-true}
 use Rattle.common.proofs.Choices.{cond-no}
 use Rattle.quant.specs.Tables.{perceptualLuma, perceptualChroma}
-use Rattle.quant.specs.Weights.{validTable, blended, blendWeight, blendTable, blendPair, blends, refuses, answered, flatPair, blendOf, qscaleOf}
+use Rattle.quant.specs.Weights.{validTable, blended, blendWeight, blendTable, blendPair, blends, noBlend, answered, flatPair, blendOf, qscaleOf}
 use Rattle.quant.proofs.WeightLaws.{valid-each, drop-more}
 
 -- ---- a weight
@@ -60,7 +60,7 @@ module _ {p : ℕ} where
   unfolding blendOf
   blend-in l h = simp (le-leb 1 p l, le-leb p 8 h)
 
-  pub blend-out : (1 ≤ p → p ≤ 8 → ⊥) → blendOf p ≡ answered (refuses 13) flatPair
+  pub blend-out : (1 ≤ p → p ≤ 8 → ⊥) → blendOf p ≡ answered (noBlend 13) flatPair
   unfolding blendOf
   blend-out n = cond-no _ _ (outside (leb 1 p) (leb p 8) refl refl)
     where

@@ -2,8 +2,8 @@
 -- Assumes nothing.
 use mathlib.Core.Path.{_≡_, refl, sym, ap, _∙_}
 use Prim.Native.Nat.{ℕ}
-use Rattle.bitstream.proofs.Unique.{refusalOf, refusalOf-number}
-use Rattle.quant.specs.Weights.{BlendAnswer, blends, refuses, toldBlend, Blending, answered, blendOf}
+use Rattle.answers.proofs.Unique.{refusalOf, refusalOf-number}
+use Rattle.quant.specs.Weights.{BlendAnswer, blends, noBlend, toldBlend, Blending, answered, blendOf}
 use Rattle.quant.specs.declared.Choice.{Choice}
 use Rattle.quant.specs.declared.Choice.the-variants.{Blended, Refused}
 use Rattle.quant.specs.declared.Blend.{Blend}
@@ -12,7 +12,7 @@ use Rattle.quant.specs.declared.Blend.{Blend}
 
 choiceOf : BlendAnswer → Choice
 choiceOf blends = Blended
-choiceOf (refuses k) = Refused (refusalOf k)
+choiceOf (noBlend k) = Refused (refusalOf k)
 
 choiceOf-told : (c : Choice) → choiceOf (toldBlend c) ≡ c
 unfolding choiceOf

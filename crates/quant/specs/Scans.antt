@@ -16,8 +16,8 @@ progressive =
     35 ∷ 40 ∷ 43 ∷ 48 ∷ 51 ∷ 56 ∷ 59 ∷ 61 ∷
     41 ∷ 42 ∷ 49 ∷ 50 ∷ 57 ∷ 58 ∷ 62 ∷ 63 ∷ []
 
-abbrev pub interlaced : List ℕ
-interlaced =
+abbrev pub interlacedScan : List ℕ
+interlacedScan =
     0 ∷ 2 ∷ 8 ∷ 10 ∷ 32 ∷ 34 ∷ 35 ∷ 41 ∷
     1 ∷ 3 ∷ 9 ∷ 11 ∷ 33 ∷ 36 ∷ 40 ∷ 42 ∷
     4 ∷ 6 ∷ 12 ∷ 14 ∷ 37 ∷ 39 ∷ 43 ∷ 49 ∷
@@ -28,7 +28,7 @@ interlaced =
     22 ∷ 28 ∷ 29 ∷ 31 ∷ 54 ∷ 60 ∷ 61 ∷ 63 ∷ []
 
 abbrev pub scanOf : Bool → List ℕ
-scanOf true = interlaced
+scanOf true = interlacedScan
 scanOf false = progressive
 
 -- the first place, from i on, at which a list has n

@@ -3,7 +3,7 @@ use Prim.Native.Nat.{ℕ, _+_, _-_, _*_, _/_, min, max}
 use mathlib.Core.Bool.{Bool, true, false, not, cond, _&&_}
 use mathlib.Core.List.{List, [], _∷_, map}
 use lib.Dec.{leb, eqb}
-use Rattle.bitstream.specs.Told.{numberOf}
+use Rattle.answers.specs.Refusals.{numberOf}
 use Rattle.quant.specs.Tables.{fours, perceptualLuma, perceptualChroma, proxyLuma, proxyChroma, ltWeights, standardWeights, hqWeights}
 use Rattle.quant.specs.declared.QuantMatrices.{QuantMatrices}
 use Rattle.quant.specs.declared.Choice.{Choice}
@@ -75,11 +75,11 @@ blendPair p = record { luma = blendTable p perceptualLuma; chroma = blendTable p
 -- the answer by document 01's numbers
 pub data BlendAnswer : Type 0 where
   blends : BlendAnswer
-  refuses : ℕ → BlendAnswer
+  noBlend : ℕ → BlendAnswer
 
 abbrev pub toldBlend : Choice → BlendAnswer
 toldBlend Blended = blends
-toldBlend (Refused why) = refuses (numberOf why)
+toldBlend (Refused why) = noBlend (numberOf why)
 
 -- an answer, and the pair that comes with it
 pub record Blending : Type 0 where
@@ -91,7 +91,7 @@ answered a m = record { answer = a; pair = m }
 
 -- any number but 1 to 8 is an unknown selector, and the pair is then the flat one
 unfoldable pub blendOf : ℕ → Blending
-blendOf p = cond (leb 1 p && leb p 8) (answered blends (blendPair p)) (answered (refuses 13) flatPair)
+blendOf p = cond (leb 1 p && leb p 8) (answered blends (blendPair p)) (answered (noBlend 13) flatPair)
 
 -- ---- the scale of a quantization index (RDD 36, Table 15)
 

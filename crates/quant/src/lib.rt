@@ -1,7 +1,7 @@
 // Weight matrices, block scans and the quantization scale: quant.rs, without the choice of a pair by profile, which is frame.rs's.
 ghost use mathlib.Core.Path.{_≡_};
 ghost use Rattle.quant.specs.Weights.{weightsValid, loadLuma, loadChroma, isDefault, flatPair, perceptualPair, proxyPair, ltPair, standardPair, hqPair, toldBlend, answered, blendOf, qscaleOf};
-use bitstream::Refusal;
+use answers::Refusal;
 
 pub mod scans; // the block scans and their inverses
 pub mod tables; // the weight tables

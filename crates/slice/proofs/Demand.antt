@@ -12,28 +12,26 @@ use lib.IntN.{ℤ, pos, natAbs}
 use lib.ListN.{length, take, drop, getD, replicate, length-append, length-replicate}
 use lib.Pow.{pow-pos}
 use lib.Seq.{take-at, drop-at, drop-drop}
-use Rattle.bitstream.specs.Bits.{bitsOf}
 use Rattle.bitstream.specs.Bytes.{bytesFor, pack}
 use Rattle.bitstream.specs.Told.{payloadLimit}
 use Rattle.bitstream.proofs.BytesLaws.{length-pack}
-use Rattle.elements.specs.Limits.{inRange}
-use Rattle.elements.specs.Elements.{encode}
-use Rattle.elements.specs.Decoding.{nil, decode}
-use Rattle.elements.specs.Answers.{Decoding, decoding, read, settled, decodeOf}
-use Rattle.elements.proofs.SizeLaws.{Below}
+use Rattle.entropy_elements.specs.Limits.{inRange}
+use Rattle.entropy_elements.specs.Elements.{encode}
+use Rattle.entropy_elements.specs.Decoding.{nil}
+use Rattle.answers.specs.Answers.{Decoding, decoding, read, Encoding, encoding, wrote, needs, Size}
+use Rattle.entropy_elements.specs.Answers.{readingOf, decodeOf}
+use Rattle.entropy_elements.proofs.SizeLaws.{Below}
 use Rattle.entropy.proofs.Demand as E
-use Rattle.entropy.proofs.DecodeLaws.{decodeOf-fits}
-use Rattle.scan.specs.Scan.{tab, scannedOf}
-use Rattle.scan.proofs.ScanLaws.{length-scanned}
-use Rattle.scan.proofs.RoundTrip.{back-blocks}
-use Rattle.components.specs.Shapes.{knownChroma, knownScan, interlaced, chromaBlocks, blocksPer, inLimit, sliceLength, Components, Few}
-use Rattle.components.specs.Encoding.{scansOf, codesOf, laid, sizesOf, neededFor, Encoding, encoding, wrote, needs, written, encodeSliceOf}
-use Rattle.components.specs.Decoding.{readAll, sliceDecoding, componentOf, joined, payloadsFit, decodeSliceOf}
-use Rattle.components.proofs.ShapeLaws.{few-of}
-use Rattle.slice.proofs.EncodeLaws.{encode-shaped}
-use Rattle.slice_writing.proofs.WrittenLaws.{written-room}
-use Rattle.slice_reading.proofs.JoinLaws.{joined-all}
-use Rattle.slice.proofs.DecodeLaws.{all-fit, decode-shaped}
+use Rattle.entropy_elements.proofs.ArgumentLaws.{decodeOf-fits}
+use Rattle.slice_scan.specs.Scan.{tab, scannedOf, placedOf}
+use Rattle.slice_scan.proofs.ScanLaws.{length-scanned}
+use Rattle.slice_scan.proofs.RoundTrip.{back-blocks}
+use Rattle.slice_shape.specs.Shapes.{knownChroma, knownScan, isInterlaced, chromaBlocks, blocksPer, inLimit, sliceLength, Components, InSliceLimits, componentLimit}
+use Rattle.slice_shape.specs.Encoding.{scansOf, codesOf, laid, sizesOf, neededFor, writtenSlice, encodeSliceOf}
+use Rattle.slice_shape.specs.Decoding.{readAll, sliceDecoding, joinedSlice, decodeSliceOf}
+use Rattle.slice_shape.proofs.ShapeLaws.{few-of}
+use Rattle.slice_shape.proofs.ArgumentLaws.{limits-fit, arguments-taken, encodeSliceOf-fit, decodeSliceOf-fit}
+use Rattle.slice_writing.proofs.WrittenLaws.{writing-in, written-room}
 
 -- the blocks of m macroblocks, each coefficient below 2^w
 pub record Given (m f s w : ℕ) (blocks : List ℤ) : Type 0 where
@@ -81,18 +79,24 @@ module _ {A : Type 0} {p q r : ℕ} (x y z rest : List A) (hx : length x ≡ p) 
 packed-fits : {b w : ℕ} {cs : List ℤ} → E.Given b w cs → length (pack (encode b cs)) ≤ payloadLimit
 packed-fits {b} {w} {cs} g = omega (arith, length-pack (encode b cs), E.bytes-fit b w cs g)
 
-component-back : (b w : ℕ) (cs : List ℤ) → E.Given b w cs → componentOf (pack (encode b cs)) b ≡ decoding (read (length (encode b cs))) cs
+component-back : (b w : ℕ) (cs : List ℤ) → E.Given b w cs → readingOf (pack (encode b cs)) b ≡ decoding (read (length (encode b cs))) cs
 component-back b w cs g =
     let p : List ℕ = pack (encode b cs) in
     let z : List ℤ = nil (64 * b) in
     let long : length z ≡ 64 * b = length-replicate (64 * b) (pos 0) in
-    sym (decodeOf-fits p b z (g .blocks) (packed-fits g) long ∙ ap (λ (n : ℕ). settled (bitsOf p) n (decode b (bitsOf p))) long)
+    sym (decodeOf-fits p b z (g .blocks) (packed-fits g) long)
     ∙ ap (λ (q : List ℕ). decodeOf q b z) (sym (append-nil p))
     ∙ E.bytes-back b w cs g 0 z (omega (arith, length-append p (replicate 0 0), packed-fits g)) long
 
+-- three components that were read
+joined-all : (i : Bool) (m c ny nb nr : ℕ) (ys cbs crs : List ℤ)
+    → joinedSlice i m c (decoding (read ny) ys) (decoding (read nb) cbs) (decoding (read nr) crs) ≡ sliceDecoding (readAll (record { y = ny; cb = nb; cr = nr })) (placedOf i m c ys cbs crs)
+unfolding joinedSlice
+joined-all i m c ny nb nr ys cbs crs = refl
+
 written-fits : (codes : Components (List Bool)) (old : List ℕ) → neededFor (sizesOf codes) ≤ length old
-    → written codes old ≡ encoding (wrote (sizesOf codes)) (laid codes ++ drop (neededFor (sizesOf codes)) old)
-unfolding written
+    → writtenSlice codes old ≡ encoding (wrote (sizesOf codes)) (laid codes ++ drop (neededFor (sizesOf codes)) old)
+unfolding writtenSlice
 written-fits codes old h = simp (le-leb (neededFor (sizesOf codes)) (length old) h)
 
 module _ (m f s w : ℕ) (blocks : List ℤ) (g : Given m f s w blocks) where
@@ -100,18 +104,18 @@ module _ (m f s w : ℕ) (blocks : List ℤ) (g : Given m f s w blocks) where
   c = chromaBlocks f
 
   abbrev codes : Components (List Bool)
-  codes = codesOf m c (scansOf (interlaced s) m c blocks)
+  codes = codesOf m c (scansOf (isInterlaced s) m c blocks)
 
-  few : Few m c
+  few : InSliceLimits m c
   few = few-of f (g .limit) refl
 
   -- the list of the component whose n blocks of each macroblock start at off
-  part : (off n : ℕ) → n ≤ 4 → E.Given (m * n) w (scannedOf (interlaced s) m (blocksPer c) off n blocks)
+  part : (off n : ℕ) → n ≤ 4 → E.Given (m * n) w (scannedOf (isInterlaced s) m (blocksPer c) off n blocks)
   part off n h = record {
-    blocks = mul-le-mul (few .few-m) h;
-    all = length-scanned (interlaced s) m (blocksPer c) off n blocks;
+    blocks = let b : m * n ≤ componentLimit = mul-le-mul (few .few-m) h in omega arith;
+    all = length-scanned (isInterlaced s) m (blocksPer c) off n blocks;
     width = g .width;
-    below = below-scanned w (interlaced s) m (blocksPer c) off n blocks (g .below);
+    below = below-scanned w (isInterlaced s) m (blocksPer c) off n blocks (g .below);
   }
 
   -- ---- room: it is refused exactly if the buffer is shorter than the three codes, whose bytes are reported; the buffer is untouched
@@ -119,12 +123,19 @@ module _ (m f s w : ℕ) (blocks : List ℤ) (g : Given m f s w blocks) where
   small : inRange blocks ≡ true
   small = E.below-inRange w blocks (g .width) (g .below)
 
+  -- the arguments are taken, and the coefficients are in range
+  written : (old : List ℕ) → encodeSliceOf blocks m f s old ≡ writtenSlice codes old
+  written old =
+      let n : length blocks ≡ 1 * sliceLength m c = omega (arith, g .all) in
+      let limits = limits-fit m {y = 0} {cb = 0} {cr = 0} (g .limit) (omega arith) (omega arith) (omega arith) in
+      encodeSliceOf-fit blocks m f s old (arguments-taken 1 0 0 0 m f s (length blocks) (g .known) limits refl n) ∙ writing-in blocks m f s old refl small
+
   pub room-none : (old : List ℕ) → length old < neededFor (sizesOf codes) → encodeSliceOf blocks m f s old ≡ encoding (needs (neededFor (sizesOf codes))) old
-  room-none old h = sym (written-room codes old refl refl refl h ∙ encode-shaped blocks m f s old (g .known) (g .limit) refl (g .all) small)
+  room-none old h = written old ∙ sym (written-room codes old refl refl refl h)
 
   pub room-enough : (old : List ℕ) → neededFor (sizesOf codes) ≤ length old
       → encodeSliceOf blocks m f s old ≡ encoding (wrote (sizesOf codes)) (laid codes ++ drop (neededFor (sizesOf codes)) old)
-  room-enough old h = sym (encode-shaped blocks m f s old (g .known) (g .limit) refl (g .all) small) ∙ written-fits codes old h
+  room-enough old h = written old ∙ written-fits codes old h
 
   -- ---- every block comes back in its place
 
@@ -133,15 +144,16 @@ module _ (m f s w : ℕ) (blocks : List ℤ) (g : Given m f s w blocks) where
       → decodeSliceOf (pack (codes .y)) (pack (codes .cb)) (pack (codes .cr)) m f s list
       ≡ sliceDecoding (readAll (record { y = length (codes .y); cb = length (codes .cb); cr = length (codes .cr) })) blocks
   packed-back list len =
-      let i : Bool = interlaced s in
+      let i : Bool = isInterlaced s in
       let Y = part 0 4 (omega arith) in
       let Cb = part 4 c (few .few-c) in
       let Cr = part (4 + c) c (few .few-c) in
-      let fit : payloadsFit (pack (codes .y)) (pack (codes .cb)) (pack (codes .cr)) ≡ true = all-fit _ _ _ (packed-fits Y) (packed-fits Cb) (packed-fits Cr) in
-      sym (decode-shaped _ _ _ m f s list (g .known) (g .limit) fit refl len)
-      ∙ ap (λ (x : Decoding). joined i m c x (componentOf (pack (codes .cb)) (m * c)) (componentOf (pack (codes .cr)) (m * c))) (component-back _ w _ Y)
-      ∙ ap₂ (λ (x y : Decoding). joined i m c (decoding (read (length (codes .y))) (scannedOf i m (blocksPer c) 0 4 blocks)) x y) (component-back _ w _ Cb) (component-back _ w _ Cr)
-      ∙ joined-all i m c (length (codes .y)) _ (length (codes .cb)) _ (length (codes .cr)) _
+      let n : length list ≡ 1 * sliceLength m c = omega (arith, len) in
+      let limits = limits-fit m (g .limit) (packed-fits Y) (packed-fits Cb) (packed-fits Cr) in
+      decodeSliceOf-fit _ _ _ m f s list (arguments-taken 1 _ _ _ m f s (length list) (g .known) limits refl n)
+      ∙ ap (λ (x : Decoding ℤ). joinedSlice i m c x (readingOf (pack (codes .cb)) (m * c)) (readingOf (pack (codes .cr)) (m * c))) (component-back _ w _ Y)
+      ∙ ap₂ (λ (x y : Decoding ℤ). joinedSlice i m c (decoding (read (length (codes .y))) (scannedOf i m (blocksPer c) 0 4 blocks)) x y) (component-back _ w _ Cb) (component-back _ w _ Cr)
+      ∙ joined-all i m c (length (codes .y)) (length (codes .cb)) (length (codes .cr)) _ _ _
       ∙ ap (sliceDecoding _) (back-blocks i m c blocks (g .all))
 
   -- what encode leaves in a buffer with room, whatever the buffer held and however long it is, decode reads back from its three parts
@@ -159,7 +171,7 @@ module _ (m f s w : ℕ) (blocks : List ℤ) (g : Given m f s w blocks) where
       let hy = length-pack (codes .y) in
       let hb = length-pack (codes .cb) in
       let hr = length-pack (codes .cr) in
-      ap (λ (e : Encoding). let ny = bytesFor (length (codes .y)) in let nb = bytesFor (length (codes .cb)) in
+      ap (λ (e : Encoding (Components Size)). let ny = bytesFor (length (codes .y)) in let nb = bytesFor (length (codes .cb)) in
       decodeSliceOf (take ny (e .buffer)) (take nb (drop ny (e .buffer))) (take (bytesFor (length (codes .cr))) (drop (ny + nb) (e .buffer))) m f s list) (room-enough old room)
       ∙ ap₂ (λ (p q : List ℕ). decodeSliceOf p q (take (bytesFor (length (codes .cr))) (drop (bytesFor (length (codes .y)) + bytesFor (length (codes .cb))) (laid codes ++ rest))) m f s list)
       (first-part y cb cr rest hy hb hr) (second-part y cb cr rest hy hb hr)

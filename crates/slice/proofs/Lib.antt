@@ -1,4 +1,1 @@
-pub mod EncodeLaws
-pub mod DecodeLaws
 pub mod Demand
-pub mod Unique

@@ -1,12 +1,13 @@
 // Slices: document 01, section Slice scan; slice.rs. Three components, each coded by itself, and every block in its place.
 ghost use mathlib.Core.Path.{_≡_};
-ghost use Rattle.components.specs.Encoding.{encoding, encodeSliceOf};
-ghost use Rattle.components.specs.Decoding.{sliceDecoding, decodeSliceOf};
-ghost use Rattle.components.specs.Told.{toldEncoded, told};
-use bitstream::Refusal;
-use components::DecodedSlice;
-use components::EncodedSlice;
-use elements::range;
+ghost use Rattle.answers.specs.Answers.{encoding};
+ghost use Rattle.slice_shape.specs.Encoding.{encodeSliceOf};
+ghost use Rattle.slice_shape.specs.Decoding.{sliceDecoding, decodeSliceOf};
+ghost use Rattle.slice_shape.specs.Told.{toldEncodedSlice, toldDecodedSlice};
+use answers::Arguments;
+use slice_shape::DecodedSlice;
+use slice_shape::EncodedSlice;
+use slice_shape::arguments;
 
 // Writes the codes of Y, Cb and Cr one after another at the start of out. A refusal (13, 1, 2, 4, 3) leaves out as it was.
 pub fn encode_slice_components(
@@ -16,22 +17,13 @@ pub fn encode_slice_components(
     scan: usize,
     out: &mut [u8],
 ) -> EncodedSlice
-    ensures { λ r. ⌜ encoding (toldEncoded r) (now (out .exit)) ≡ encodeSliceOf (now (blocks .entry)) macroblocks chroma scan (now (out .entry)) ⌝ }
+    ensures { λ r. ⌜ encoding (toldEncodedSlice r) (now (out .exit)) ≡ encodeSliceOf (now (blocks .entry)) macroblocks chroma scan (now (out .entry)) ⌝ }
 {
-    if !components::known(chroma, scan) {
-        return EncodedSlice::Refused(Refusal::Selector);
+    let tested = arguments::test(1, 0, 0, 0, macroblocks, chroma, scan, blocks.len());
+    match tested {
+        Arguments::Refused(why) => EncodedSlice::Refused(why),
+        Arguments::Taken => slice_writing::encode_blocks(blocks, macroblocks, chroma, scan, out),
     }
-    if !components::in_limit(macroblocks) {
-        return EncodedSlice::Refused(Refusal::Limit);
-    }
-    let c = components::chroma_blocks(chroma);
-    if blocks.len() != 64 * (macroblocks * (4 + 2 * c)) {
-        return EncodedSlice::Refused(Refusal::Length);
-    }
-    if range::out_of_range(blocks) {
-        return EncodedSlice::Refused(Refusal::Value);
-    }
-    slice_writing::encode_blocks(blocks, macroblocks, c, scan == 1, out)
 }
 
 // Reads the payloads of Y, Cb and Cr into blocks, every block in its place. A refusal of the arguments (13, 1, 2) leaves blocks as it was; one of a
@@ -45,26 +37,22 @@ pub fn decode_slice_components(
     scan: usize,
     blocks: &mut [i32],
 ) -> DecodedSlice
-    ensures { λ r. ⌜ sliceDecoding (told r) (now (blocks .exit)) ≡ decodeSliceOf (now (y .entry)) (now (cb .entry)) (now (cr .entry)) macroblocks chroma scan (now (blocks .entry)) ⌝ }
+    ensures { λ r. ⌜ sliceDecoding (toldDecodedSlice r) (now (blocks .exit)) ≡ decodeSliceOf (now (y .entry)) (now (cb .entry)) (now (cr .entry)) macroblocks chroma scan (now (blocks .entry)) ⌝ }
 {
-    if !components::known(chroma, scan) {
-        return DecodedSlice::Refused(Refusal::Selector);
+    let tested = arguments::test(
+        1,
+        y.len(),
+        cb.len(),
+        cr.len(),
+        macroblocks,
+        chroma,
+        scan,
+        blocks.len(),
+    );
+    match tested {
+        Arguments::Refused(why) => DecodedSlice::Refused(why),
+        Arguments::Taken => {
+            slice_reading::decode_blocks(y, cb, cr, macroblocks, chroma, scan, blocks)
+        }
     }
-    if !components::in_limit(macroblocks) {
-        return DecodedSlice::Refused(Refusal::Limit);
-    }
-    if bitstream::PAYLOAD_LIMIT < y.len() {
-        return DecodedSlice::Refused(Refusal::Limit);
-    }
-    if bitstream::PAYLOAD_LIMIT < cb.len() {
-        return DecodedSlice::Refused(Refusal::Limit);
-    }
-    if bitstream::PAYLOAD_LIMIT < cr.len() {
-        return DecodedSlice::Refused(Refusal::Limit);
-    }
-    let c = components::chroma_blocks(chroma);
-    if blocks.len() != 64 * (macroblocks * (4 + 2 * c)) {
-        return DecodedSlice::Refused(Refusal::Length);
-    }
-    slice_reading::decode_blocks(y, cb, cr, macroblocks, c, scan == 1, blocks)
 }

@@ -1,60 +1,71 @@
--- Laws of `joined`, case by case, and of lists of zeros.
+-- Laws of joined readings, and of lists of zeros.
 -- Assumes nothing.
-use Prim.Native.Nat.{ℕ, zero, suc, _-_, _≤_}
+use Prim.Native.Nat.{ℕ, zero, suc, _*_, _≤_}
 use native.Mathlib.Nat.{not-suc-le-zero, le-of-suc-le-suc}
 use native.Mathlib.Omega.{arith}
-use mathlib.Core.Path.{_≡_, refl, sym, ap, _∙_}
-use mathlib.Core.Bool.{Bool}
+use mathlib.Core.Path.{_≡_, refl, ap, ap₂, _∙_}
+use mathlib.Core.Bool.{Bool, cond}
 use mathlib.Core.List.{List, _∷_}
 use lib.IntN.{ℤ, pos}
-use lib.ListN.{length, take, length-replicate}
-use Rattle.bitstream.specs.declared.Reached.{Reached}
-use Rattle.elements.specs.Decoding.{nil}
-use Rattle.elements.specs.Answers.{read, refuse, Decoding, decoding}
-use Rattle.reading.specs.Steps.{reachedSays}
-use Rattle.scan.specs.Scan.{placedOf}
-use Rattle.components.specs.Shapes.{sliceLength}
-use Rattle.components.specs.Decoding.{readAll, refuseIn, SliceDecoding, sliceDecoding, componentOf, joined}
+use lib.ListN.{take}
+use Rattle.answers.specs.Refusals.{numberOf}
+use Rattle.answers.specs.Answers.{read, refuse, Decoding, decoding}
+use Rattle.answers.specs.Told.{reachedSays}
+use Rattle.answers.specs.declared.Reached.{Reached}
+use Rattle.answers.specs.declared.Reached.the-variants.{At, No}
+use Rattle.entropy_elements.specs.Answers.{readingOf}
+use Rattle.entropy_elements.specs.Decoding.{nil}
+use Rattle.slice_scan.specs.Scan.{placedOf}
+use Rattle.slice_shape.specs.Shapes.{sliceLength}
+use Rattle.slice_shape.specs.Decoding.{SliceAnswer, joinedAnswer, allRead, sliceDecoding, joinedSlice}
+use Rattle.slice_shape.specs.Told.{toldReached}
+use Rattle.slice_reading.specs.Due.{dueBehind}
 
--- ---- the three components
+pub due-le : (r : Reached) (b : ℕ) → dueBehind (toldReached r) b ≤ b
+due-le (At n) b = omega arith
+due-le (No k) b = omega arith
 
-module _ (i : Bool) (m c : ℕ) where
-  pub joined-y : (k : ℕ) (l : List ℤ) (cb cr : Decoding) → joined i m c (decoding (refuse k) l) cb cr ≡ sliceDecoding (refuseIn 1 k) (nil (sliceLength m c))
-  unfolding joined
-  joined-y k l cb cr = refl
+-- ---- what three readings reached is joined as the readings are: a component counts only where those before it were read, the lists only where all were
 
-  module _ (ny : ℕ) (ys : List ℤ) where
-    pub joined-cb : (k : ℕ) (l : List ℤ) (cr : Decoding)
-        → joined i m c (decoding (read ny) ys) (decoding (refuse k) l) cr ≡ sliceDecoding (refuseIn 2 k) (nil (sliceLength m c))
-    unfolding joined
-    joined-cb k l cr = refl
+module _ (i : Bool) (m c : ℕ) (ys cbs crs : List ℤ) (p q r : List ℕ) where
+  abbrev luma : ℕ
+  luma = 64 * (m * 4)
 
-    module _ (nb : ℕ) (cbs : List ℤ) where
-      pub joined-cr : (k : ℕ) (l : List ℤ)
-          → joined i m c (decoding (read ny) ys) (decoding (read nb) cbs) (decoding (refuse k) l) ≡ sliceDecoding (refuseIn 3 k) (nil (sliceLength m c))
-      unfolding joined
-      joined-cr k l = refl
+  abbrev chroma : ℕ
+  chroma = 64 * (m * c)
 
-      pub joined-all : (nr : ℕ) (crs : List ℤ)
-          → joined i m c (decoding (read ny) ys) (decoding (read nb) cbs) (decoding (read nr) crs)
-          ≡ sliceDecoding (readAll (record { y = ny; cb = nb; cr = nr })) (placedOf i m c ys cbs crs)
-      unfolding joined
-      joined-all nr crs = refl
+  -- what is left in the blocks
+  abbrev left : SliceAnswer → List ℤ
+  left a = cond (allRead a) (placedOf i m c (take luma ys) (take chroma cbs) (take chroma crs)) (nil (sliceLength m c))
 
--- what goes on from a component goes on from what its reading reached
-pub reached : (J : Decoding → SliceDecoding) (b : ℕ) (list : List ℤ) (p : List ℕ) {x y : Reached} → reachedSays b x list ≡ componentOf p b → x ≡ y
-    → J (reachedSays b y list) ≡ J (componentOf p b)
-reached J b list p said e = ap (λ (z : Reached). J (reachedSays b z list)) (sym e) ∙ ap J said
+  -- Y as it was read, and Cb and Cr as far as they are due
+  pub record Readings (y cb cr : Reached) (nb nr : ℕ) : Type 0 where
+    pub due-b : nb ≡ dueBehind (toldReached y) (m * c)
+    pub due-r : nr ≡ dueBehind (toldReached cb) nb
+    pub is-y : reachedSays (pos 0) luma y (take luma ys) ≡ readingOf p (m * 4)
+    pub is-b : reachedSays (pos 0) (64 * nb) cb (take (64 * nb) cbs) ≡ readingOf q nb
+    pub is-r : reachedSays (pos 0) (64 * nr) cr (take (64 * nr) crs) ≡ readingOf r nr
 
--- ---- the first n of k zeros
+  joined-reached : (y cb cr : Reached) {nb nr : ℕ} → Readings y cb cr nb nr
+      → let a = joinedAnswer (toldReached y) (toldReached cb) (toldReached cr) in
+      sliceDecoding a (left a) ≡ joinedSlice i m c (readingOf p (m * 4)) (readingOf q (m * c)) (readingOf r (m * c))
+  unfolding joinedSlice
+  joined-reached (No k) cb cr t = ap (λ (y : Decoding ℤ). joinedSlice i m c y (readingOf q (m * c)) (readingOf r (m * c))) (t .is-y)
+  joined-reached (At n) (No k) cr t = ap₂ (λ (y cb : Decoding ℤ). joinedSlice i m c y cb (readingOf r (m * c))) (t .is-y) (rw (t .due-b) at (t .is-b))
+  joined-reached (At n) (At k) (No j) t =
+      ap₂ (λ (y cb : Decoding ℤ). joinedSlice i m c y cb (decoding (refuse (numberOf j)) (nil chroma))) (t .is-y) (rw (t .due-b) at (t .is-b))
+      ∙ ap (joinedSlice i m c (readingOf p (m * 4)) (readingOf q (m * c))) (rw (t .due-r, t .due-b) at (t .is-r))
+  joined-reached (At n) (At k) (At j) t =
+      ap₂ (λ (y cb : Decoding ℤ). joinedSlice i m c y cb (decoding (read j) (take chroma crs))) (t .is-y) (rw (t .due-b) at (t .is-b))
+      ∙ ap (joinedSlice i m c (readingOf p (m * 4)) (readingOf q (m * c))) (rw (t .due-r, t .due-b) at (t .is-r))
 
-take-nil : (n k : ℕ) → n ≤ k → take n (nil k) ≡ nil n
+  pub joined-read : (y cb cr : Reached) {nb nr : ℕ} {a : SliceAnswer} {l : List ℤ} → Readings y cb cr nb nr
+      → a ≡ joinedAnswer (toldReached y) (toldReached cb) (toldReached cr) → l ≡ left a
+      → sliceDecoding a l ≡ joinedSlice i m c (readingOf p (m * 4)) (readingOf q (m * c)) (readingOf r (m * c))
+  joined-read y cb cr t ea el = rw (el, ea) (joined-reached y cb cr t)
+
+-- the first n of k zeros
+pub take-nil : (n k : ℕ) → n ≤ k → take n (nil k) ≡ nil n
 take-nil zero k h = refl
 take-nil (suc n) zero h = absurd (not-suc-le-zero h)
 take-nil (suc n) (suc k) h = ap (λ (l : List ℤ). pos 0 ∷ l) (take-nil n k (le-of-suc-le-suc h))
-
-pub nil-part : {l : List ℤ} (n k : ℕ) → l ≡ nil k → n ≤ k → take (n - 0) l ≡ nil n
-nil-part n k e h = let z : n - 0 ≡ n = omega arith in rw (z, e) (take-nil n k h)
-
-pub nil-long : {l : List ℤ} (n k : ℕ) → l ≡ nil k → n ≤ k → n ≤ length l
-nil-long n k e h = rw (e, length-replicate k (pos 0)) h

@@ -11,8 +11,8 @@ use lib.Seq.{take-all, take-at, drop-at, drop-drop}
 use Rattle.bitstream.specs.Bytes.{bytesFor, pack, stored}
 use Rattle.bitstream.specs.Puts.{storedFrom}
 use Rattle.bitstream.proofs.BytesLaws.{length-pack}
-use Rattle.components.specs.Shapes.{Components}
-use Rattle.components.specs.Encoding.{laid, sizesOf, neededFor}
+use Rattle.slice_shape.specs.Shapes.{Components}
+use Rattle.slice_shape.specs.Encoding.{laid, sizesOf, neededFor}
 
 -- the part from byte i on is lent, a code is stored there, and the part comes back
 pub from-part : (old : List ℕ) (i : ℕ) (code : List Bool) {l : List ℕ} → let k = length old - i in

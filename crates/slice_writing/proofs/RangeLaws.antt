@@ -5,13 +5,15 @@ use mathlib.Core.Path.{_≡_, sym, subst}
 use mathlib.Core.Bool.{Bool, true}
 use mathlib.Core.List.{List}
 use native.Mathlib.Nat.{mul-le-mul}
+use native.Mathlib.Omega.{arith}
 use lib.IntN.{ℤ, natAbs}
-use Rattle.elements.specs.Limits.{most, inRange, Fine}
-use Rattle.elements.proofs.RoundTrip.{Small}
-use Rattle.elements.proofs.RangeLaws.{natAbs-inRange, inRange-small}
-use Rattle.scan.specs.Scan.{tab, scannedOf}
-use Rattle.scan.proofs.ScanLaws.{length-scanned}
-use Rattle.components.specs.Shapes.{blocksPer, Shaped}
+use Rattle.entropy_elements.specs.Limits.{most, inRange, Encodable}
+use Rattle.entropy_elements.proofs.RoundTrip.{Small}
+use Rattle.entropy_elements.proofs.RangeLaws.{natAbs-inRange, inRange-small}
+use Rattle.slice_scan.specs.Scan.{tab, scannedOf}
+use Rattle.slice_scan.proofs.ScanLaws.{length-scanned}
+use Rattle.slice_shape.specs.Shapes.{blocksPer, componentLimit}
+use Rattle.slice_writing.specs.Shaped.{Shaped}
 
 tab-small : (n : ℕ) (f : ℕ → ℤ) → ((k : ℕ) → natAbs (f k) ≤ most) → Small (tab n f)
 tab-small zero f h = tt
@@ -23,11 +25,12 @@ inRange-scanned i m per off c blocks small = inRange-small _ (tab-small (64 * (m
 
 -- a component of b blocks a macroblock, from off on
 module _ {m c : ℕ} {blocks : List ℤ} (fit : Shaped m c blocks) (i : Bool) (off b : ℕ) where
-  pub scanned-fine : {l : List ℤ} → b ≤ 4 → l ≡ scannedOf i m (blocksPer c) off b blocks → Fine (m * b) l
+  pub scanned-fine : {l : List ℤ} → b ≤ 4 → l ≡ scannedOf i m (blocksPer c) off b blocks → Encodable (m * b) l
   scanned-fine h e =
-      subst (Fine (m * b)) (sym e)
+      let part : m * b ≤ componentLimit = mul-le-mul (fit .few .few-m) h in
+      subst (Encodable (m * b)) (sym e)
       (record {
-        few = mul-le-mul (fit .few .few-m) h;
+        few = omega arith;
         full = length-scanned i m (blocksPer c) off b blocks;
         small = inRange-scanned i m (blocksPer c) off b blocks (fit .small);
       })

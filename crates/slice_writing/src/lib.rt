@@ -1,29 +1,32 @@
-// One list of blocks into three codes: scan, count, test the room, write.
+// One list of blocks into three codes: test the range, scan, count, test the room, write.
 ghost use mathlib.Core.Path.{_≡_};
 ghost use Prim.Native.Nat.{_+_, _*_, _≤_};
-ghost use lib.ListN.{length};
+ghost use lib.ListN.{length, take};
+ghost use Rattle.answers.specs.Answers.{encoding};
 ghost use Rattle.bitstream.specs.Bytes.{bytesFor};
 ghost use Rattle.bitstream.specs.Puts.{storedFrom};
-ghost use Rattle.elements.specs.Limits.{Fine};
-ghost use Rattle.elements.specs.Elements.{encode};
-ghost use Rattle.components.specs.Shapes.{Shaped, Parts};
-ghost use Rattle.components.specs.Encoding.{scansOf, codesOf, encoding, wrote, written};
-ghost use Rattle.components.specs.Told.{toldEncoded};
-use components::Code;
-use components::EncodedSlice;
+ghost use Rattle.bitstream.specs.Written.{sizeOf};
+ghost use Rattle.entropy_elements.specs.Elements.{encode};
+ghost use Rattle.entropy_elements.specs.Limits.{codeLimit, Encodable};
+ghost use Rattle.slice_scan.specs.Scan.{scannedOf};
+ghost use Rattle.slice_scan.specs.Shapes.{Shape};
+ghost use Rattle.slice_shape.specs.Arguments.{TakenSlice};
+ghost use Rattle.slice_shape.specs.Encoding.{scansOf, codesOf, sizesOf, neededFor, writtenSlice, sliceWritingOf};
+ghost use Rattle.slice_shape.specs.Shapes.{chromaBlocks, componentLimit, componentList};
+ghost use Rattle.slice_shape.specs.Told.{toldCode, toldEncodedSlice};
+ghost use Rattle.slice_writing.specs.Shaped.{Shaped};
+use answers::Refusal;
+use entropy_elements::arguments;
+use entropy_elements::range;
+use slice_shape::COMPONENT_LIST;
+use slice_shape::Code;
+use slice_shape::EncodedSlice;
 
-// The code of a component from byte `from` on, and its bits.
-fn write_from(coeffs: &[i32], blocks: usize, out: &mut [u8], from: usize) -> usize
-    requires { ⌜ Fine blocks (now coeffs) × (from + bytesFor (length (encode blocks (now coeffs))) ≤ length (now out)) ⌝ }
-    ensures count { λ r. ⌜ r ≡ length (encode blocks (now (coeffs .entry))) ⌝ }
-    ensures buffer { λ _. ⌜ now (out .exit) ≡ storedFrom (now (out .entry)) from (encode blocks (now (coeffs .entry))) ⌝ }
-{
-    writing::write(coeffs, blocks, &mut out[from..])
-}
+// ---- one component
 
 fn code(bits: usize) -> Code
-    requires { ⌜ bits ≤ 129024 ⌝ }
-    ensures { λ r. ⌜ r ≡ record { bytes = bytesFor bits; bits = bits } ⌝ }
+    requires { ⌜ bits ≤ codeLimit ⌝ }
+    ensures { λ r. ⌜ toldCode r ≡ record { bytes = bytesFor bits; bits = bits } ⌝ }
 {
     Code {
         bytes: (bits + 7) / 8,
@@ -31,19 +34,42 @@ fn code(bits: usize) -> Code
     }
 }
 
-// Three codes of so many bits.
-fn done(y: usize, cb: usize, cr: usize) -> EncodedSlice
-    requires { ⌜ (y ≤ 129024) × (cb ≤ 129024) × (cr ≤ 129024) ⌝ }
-    ensures { λ r. ⌜ toldEncoded r ≡ wrote (record { y = record { bytes = bytesFor y; bits = y }; cb = record { bytes = bytesFor cb; bits = cb }; cr = record { bytes = bytesFor cr; bits = cr } }) ⌝ }
+fn count(coeffs: &[i32], blocks: usize) -> Code
+    requires { ⌜ Encodable blocks (now coeffs) ⌝ }
+    ensures { λ r. ⌜ toldCode r ≡ sizeOf (encode blocks (now (coeffs .entry))) ⌝ }
 {
-    EncodedSlice::Done {
-        y: code(y),
-        cb: code(cb),
-        cr: code(cr),
-    }
+    code(entropy_writing::count(coeffs, blocks))
 }
 
-// Three scanned lists, into a buffer with room for any of their lengths: nothing has to be counted first.
+// From byte `from` on.
+fn write(coeffs: &[i32], blocks: usize, out: &mut [u8], from: usize) -> Code
+    requires { ⌜ Encodable blocks (now coeffs) × (from + bytesFor (length (encode blocks (now coeffs))) ≤ length (now out)) ⌝ }
+    ensures size { λ r. ⌜ toldCode r ≡ sizeOf (encode blocks (now (coeffs .entry))) ⌝ }
+    ensures buffer { λ _. ⌜ now (out .exit) ≡ storedFrom (now (out .entry)) from (encode blocks (now (coeffs .entry))) ⌝ }
+{
+    code(entropy_writing::write(coeffs, blocks, &mut out[from..]))
+}
+
+// To the start of a list that is long enough for any component.
+fn scan(
+    blocks: &[i32],
+    list: &mut [i32],
+    mbs: usize,
+    per: usize,
+    off: usize,
+    c: usize,
+    interlaced: bool,
+)
+    requires { ⌜ Shape mbs per off c (length (now blocks)) (64 * (mbs * c)) × (mbs * c ≤ componentLimit) × (length (now list) ≡ componentList) ⌝ }
+    ensures { λ _. ⌜ take (64 * (mbs * c)) (now (list .exit)) ≡ scannedOf interlaced mbs per off c (now (blocks .entry)) ⌝ }
+{
+    let n = 64 * (mbs * c);
+    slice_scan::scan_component(blocks, &mut list[..n], mbs, per, off, c, interlaced);
+}
+
+// ---- three
+
+// Three scanned lists, into a buffer with room for their codes.
 fn write_lists(
     y: &[i32],
     cb: &[i32],
@@ -52,15 +78,19 @@ fn write_lists(
     c: usize,
     out: &mut [u8],
 ) -> EncodedSlice
-    requires { ⌜ Fine (mbs * 4) (now y) × Fine (mbs * c) (now cb) × Fine (mbs * c) (now cr) × (504 * (mbs * 4 + mbs * c + mbs * c) ≤ length (now out)) ⌝ }
-    ensures { λ r. ⌜ encoding (toldEncoded r) (now (out .exit)) ≡ written (codesOf mbs c (record { y = now (y .entry); cb = now (cb .entry); cr = now (cr .entry) })) (now (out .entry)) ⌝ }
+    requires { ⌜ Encodable (mbs * 4) (now y) × Encodable (mbs * c) (now cb) × Encodable (mbs * c) (now cr) × (neededFor (sizesOf (codesOf mbs c (record { y = now y; cb = now cb; cr = now cr }))) ≤ length (now out)) ⌝ }
+    ensures { λ r. ⌜ encoding (toldEncodedSlice r) (now (out .exit)) ≡ writtenSlice (codesOf mbs c (record { y = now (y .entry); cb = now (cb .entry); cr = now (cr .entry) })) (now (out .entry)) ⌝ }
 {
-    let y_bits = write_from(y, mbs * 4, out, 0);
-    let y_bytes = (y_bits + 7) / 8;
-    let cb_bits = write_from(cb, mbs * c, out, y_bytes);
-    let cb_bytes = (cb_bits + 7) / 8;
-    let cr_bits = write_from(cr, mbs * c, out, y_bytes + cb_bytes);
-    done(y_bits, cb_bits, cr_bits)
+    let y_code = write(y, mbs * 4, out, 0);
+    let behind_y = y_code.bytes;
+    let cb_code = write(cb, mbs * c, out, behind_y);
+    let behind_cb = behind_y + cb_code.bytes;
+    let cr_code = write(cr, mbs * c, out, behind_cb);
+    EncodedSlice::Done {
+        y: y_code,
+        cb: cb_code,
+        cr: cr_code,
+    }
 }
 
 // Three scanned lists.
@@ -72,52 +102,27 @@ fn encode_lists(
     c: usize,
     out: &mut [u8],
 ) -> EncodedSlice
-    requires { ⌜ Fine (mbs * 4) (now y) × Fine (mbs * c) (now cb) × Fine (mbs * c) (now cr) ⌝ }
-    ensures { λ r. ⌜ encoding (toldEncoded r) (now (out .exit)) ≡ written (codesOf mbs c (record { y = now (y .entry); cb = now (cb .entry); cr = now (cr .entry) })) (now (out .entry)) ⌝ }
+    requires { ⌜ Encodable (mbs * 4) (now y) × Encodable (mbs * c) (now cb) × Encodable (mbs * c) (now cr) ⌝ }
+    ensures { λ r. ⌜ encoding (toldEncodedSlice r) (now (out .exit)) ≡ writtenSlice (codesOf mbs c (record { y = now (y .entry); cb = now (cb .entry); cr = now (cr .entry) })) (now (out .entry)) ⌝ }
 {
     let y_blocks = mbs * 4;
     let c_blocks = mbs * c;
-    if 504 * (y_blocks + c_blocks + c_blocks) <= out.len() {
+    // a buffer with room for any lists of these lengths needs no counting first
+    let most = arguments::BLOCK_BYTES * (y_blocks + c_blocks + c_blocks);
+    if most <= out.len() {
         return write_lists(y, cb, cr, mbs, c, out);
     }
-    let y_bits = writing::count(y, y_blocks);
-    let cb_bits = writing::count(cb, c_blocks);
-    let cr_bits = writing::count(cr, c_blocks);
-    let y_bytes = (y_bits + 7) / 8;
-    let cb_bytes = (cb_bits + 7) / 8;
-    let cr_bytes = (cr_bits + 7) / 8;
-    let needed = y_bytes + cb_bytes + cr_bytes;
+    let y_code = count(y, y_blocks);
+    let cb_code = count(cb, c_blocks);
+    let cr_code = count(cr, c_blocks);
+    let needed = y_code.bytes + cb_code.bytes + cr_code.bytes;
     if out.len() < needed {
         return EncodedSlice::Room { needed };
     }
-    write_from(y, y_blocks, out, 0);
-    write_from(cb, c_blocks, out, y_bytes);
-    write_from(cr, c_blocks, out, y_bytes + cb_bytes);
-    done(y_bits, cb_bits, cr_bits)
+    write_lists(y, cb, cr, mbs, c, out)
 }
 
-// Three lists to scan into, each as long as its component.
-fn encode_scanned(
-    blocks: &[i32],
-    mbs: usize,
-    c: usize,
-    interlaced: bool,
-    y: &mut [i32],
-    cb: &mut [i32],
-    cr: &mut [i32],
-    out: &mut [u8],
-) -> EncodedSlice
-    requires { ⌜ Shaped mbs c (now blocks) × Parts mbs c (length (now y)) (length (now cb)) (length (now cr)) ⌝ }
-    ensures { λ r. ⌜ encoding (toldEncoded r) (now (out .exit)) ≡ written (codesOf mbs c (scansOf interlaced mbs c (now (blocks .entry)))) (now (out .entry)) ⌝ }
-{
-    let per = 4 + 2 * c;
-    scan::scan_component(blocks, y, mbs, per, 0, 4, interlaced);
-    scan::scan_component(blocks, cb, mbs, per, 4, c, interlaced);
-    scan::scan_component(blocks, cr, mbs, per, 4 + c, c, interlaced);
-    encode_lists(y, cb, cr, mbs, c, out)
-}
-
-// Three lists of the largest component's length.
+// Three lists to scan into.
 fn encode_in(
     blocks: &[i32],
     mbs: usize,
@@ -128,24 +133,20 @@ fn encode_in(
     cr: &mut [i32],
     out: &mut [u8],
 ) -> EncodedSlice
-    requires { ⌜ Shaped mbs c (now blocks) × ((length (now y) ≡ 2048) × (length (now cb) ≡ 2048) × (length (now cr) ≡ 2048)) ⌝ }
-    ensures { λ r. ⌜ encoding (toldEncoded r) (now (out .exit)) ≡ written (codesOf mbs c (scansOf interlaced mbs c (now (blocks .entry)))) (now (out .entry)) ⌝ }
+    requires { ⌜ Shaped mbs c (now blocks) × ((length (now y) ≡ componentList) × (length (now cb) ≡ componentList) × (length (now cr) ≡ componentList)) ⌝ }
+    ensures { λ r. ⌜ encoding (toldEncodedSlice r) (now (out .exit)) ≡ writtenSlice (codesOf mbs c (scansOf interlaced mbs c (now (blocks .entry)))) (now (out .entry)) ⌝ }
 {
+    let per = 4 + 2 * c;
+    scan(blocks, y, mbs, per, 0, 4, interlaced);
+    scan(blocks, cb, mbs, per, 4, c, interlaced);
+    scan(blocks, cr, mbs, per, 4 + c, c, interlaced);
     let luma = 64 * (mbs * 4);
     let chroma = 64 * (mbs * c);
-    encode_scanned(
-        blocks,
-        mbs,
-        c,
-        interlaced,
-        &mut y[0..luma],
-        &mut cb[0..chroma],
-        &mut cr[0..chroma],
-        out,
-    )
+    encode_lists(&y[..luma], &cb[..chroma], &cr[..chroma], mbs, c, out)
 }
 
-pub fn encode_blocks(
+// Lends the three lists.
+fn encode_scanned(
     blocks: &[i32],
     mbs: usize,
     c: usize,
@@ -153,10 +154,28 @@ pub fn encode_blocks(
     out: &mut [u8],
 ) -> EncodedSlice
     requires { ⌜ Shaped mbs c (now blocks) ⌝ }
-    ensures { λ r. ⌜ encoding (toldEncoded r) (now (out .exit)) ≡ written (codesOf mbs c (scansOf interlaced mbs c (now (blocks .entry)))) (now (out .entry)) ⌝ }
+    ensures { λ r. ⌜ encoding (toldEncodedSlice r) (now (out .exit)) ≡ writtenSlice (codesOf mbs c (scansOf interlaced mbs c (now (blocks .entry)))) (now (out .entry)) ⌝ }
 {
-    let mut y = [0i32; 2048];
-    let mut cb = [0i32; 2048];
-    let mut cr = [0i32; 2048];
+    let mut y = [0i32; COMPONENT_LIST];
+    let mut cb = [0i32; COMPONENT_LIST];
+    let mut cr = [0i32; COMPONENT_LIST];
     encode_in(blocks, mbs, c, interlaced, &mut y, &mut cb, &mut cr, out)
+}
+
+// An encode whose arguments were tested, but for the range of the coefficients.
+pub fn encode_blocks(
+    blocks: &[i32],
+    macroblocks: usize,
+    chroma: usize,
+    scan: usize,
+    out: &mut [u8],
+) -> EncodedSlice
+    requires { ⌜ TakenSlice 1 0 0 0 macroblocks (chromaBlocks chroma) (length (now blocks)) ⌝ }
+    ensures { λ r. ⌜ encoding (toldEncodedSlice r) (now (out .exit)) ≡ sliceWritingOf (now (blocks .entry)) macroblocks chroma scan (now (out .entry)) ⌝ }
+{
+    if range::out_of_range(blocks) {
+        return EncodedSlice::Refused(Refusal::Value);
+    }
+    let c = slice_shape::chroma_blocks(chroma);
+    encode_scanned(blocks, macroblocks, c, scan == 1, out)
 }

@@ -29,8 +29,8 @@ returns c =
     let start = b .before .before in
     let a = start .args in
     let g = c .before .before .before .read2 .given in
-    difference-escaped (a .payload .now) (b .read-bit .result) (a .kind) (a .prev) (a .at) (start .pre .0) (b .read-bit .ensures) (g .0 .0) (g .0 .1 .0) (g .1) (c .before .if1 .taken)
-    (c .escaped-step .result) (c .escaped-step .ensures)
+    difference-escaped (a .payload .now) (b .read-bit .result) (a .kind) (a .prev) (a .at) (start .pre .0) (b .read-bit .ensures) (g .0 .0) (g .0 .1 .0) (g .1) (c .escaped-step .result) (c .before .if1 .taken)
+    (c .escaped-step .ensures)
 
 small-step-requires : tie.Need-small-step-requires
 small-step-requires c κs =
@@ -54,8 +54,8 @@ returns-3 c =
     let start = b .before .before in
     let a = start .args in
     let g = c .before .before .before .read2 .given in
-    difference-small (a .payload .now) (b .read-bit .result) (a .kind) (a .prev) (a .at) (start .pre .0) (b .read-bit .ensures) (g .0 .0) (g .0 .1 .0) (g .1) (c .before .if1 .left)
-    (c .small-step .result) (c .small-step .ensures)
+    difference-small (a .payload .now) (b .read-bit .result) (a .kind) (a .prev) (a .at) (start .pre .0) (b .read-bit .ensures) (g .0 .0) (g .0 .1 .0) (g .1) (c .small-step .result) (c .before .if1 .left)
+    (c .small-step .ensures)
 
 pub difference-step-spec : {M : Type 1} → statement M
 difference-step-spec =

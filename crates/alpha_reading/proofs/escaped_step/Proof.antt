@@ -1,11 +1,15 @@
 -- `alpha_reading::escaped_step` meets its contract.
 -- Assumes nothing.
-use Prim.Native.Nat.{ℕ}
+use Prim.Native.Nat.{ℕ, _≤_}
+use native.Mathlib.Omega.{arith}
 use mathlib.Core.Path.{_≡_, ap, _∙_}
+use lib.IntN.{pos}
 use Rattle.bitstream.specs.Reading.{readBits}
-use Rattle.bitstream.specs.Told.{told, outcomeAt}
-use Rattle.samples.specs.Kinds.{widthOf}
-use Rattle.alpha_reading.proofs.StepAnswers.{escaped-stepped-no, escaped-le, escaped-stepped}
+use Rattle.bitstream.specs.Told.{toldRead, outcomeAt}
+use Rattle.alpha_elements.specs.Kinds.{widthOf}
+use Rattle.bitstream.proofs.AnswerLaws.{field-lt}
+use Rattle.alpha_elements.proofs.KindLaws.{pow-width, sizes}
+use Rattle.alpha_reading.proofs.StepAnswers.{field-stepped-no, field-stepped}
 use borrow.Author.Needs.{needs}
 use Rattle.alpha_reading.proofs.escaped_step.Statement.{statement}
 use Rattle.alpha_reading.proofs.escaped_step.Tie as tie
@@ -24,10 +28,13 @@ enum-known-read-2 c = search needs
 
 -- what was read is a field of the kind's width
 said : (c : tie.After-read-bits) → let a = c .before .before .before .args in
-    told (c .read-bits .result) ≡ outcomeAt (readBits (widthOf (a .kind))) (a .payload .now) (a .at)
+    toldRead (c .read-bits .result) ≡ outcomeAt (readBits (widthOf (a .kind))) (a .payload .now) (a .at)
 said c =
     let a = c .before .before .before .args in
     c .read-bits .ensures ∙ ap (λ (w : ℕ). outcomeAt (readBits w) (a .payload .now) (a .at)) (c .before .width .ensures)
+
+narrow : (c : tie.After-read-bits) → widthOf (c .before .before .before .args .kind) ≤ 32
+narrow c = omega (arith, sizes (c .before .before .before .args .kind) .width)
 
 escaped-sample-requires : tie.Need-escaped-sample-requires
 escaped-sample-requires c κs =
@@ -35,7 +42,7 @@ escaped-sample-requires c κs =
     let start = b .before .before .before in
     let a = start .args in
     let g = c .before .read2 .given in
-    (start .pre .1, escaped-le (a .payload .now) (b .read-bits .result) (a .kind) (a .prev) (a .at) (start .pre .0) (said b) (g .0 .0) (g .0 .1 .0) (g .1))
+    (start .pre .1, omega (arith, field-lt (a .payload .now) (a .at) (widthOf (a .kind)) (b .read-bits .result) (start .pre .0) (narrow b) (said b) (g .0 .0) (g .0 .1 .0) (g .1), pow-width (a .kind)))
 
 returns : tie.Need-returns
 returns c =
@@ -43,7 +50,7 @@ returns c =
     let start = b .before .before .before in
     let a = start .args in
     let g = c .before .read .given in
-    escaped-stepped-no (a .payload .now) (b .read-bits .result) (a .kind) (a .prev) (a .at) (start .pre .0) (said b) (g .0 .0) (g .1)
+    field-stepped-no (a .payload .now) (b .read-bits .result) (a .kind) (a .prev) (a .at) (start .pre .0) (widthOf (a .kind)) pos (narrow b) (said b) (g .0 .0) (g .1)
 
 returns-2 : tie.Need-returns-2
 returns-2 c =
@@ -51,7 +58,7 @@ returns-2 c =
     let start = b .before .before .before in
     let a = start .args in
     let g = c .before .before .read2 .given in
-    escaped-stepped (a .payload .now) (b .read-bits .result) (a .kind) (a .prev) (a .at) (start .pre .0) (said b) (g .0 .0) (g .0 .1 .0) (g .1)
+    field-stepped (a .payload .now) (b .read-bits .result) (a .kind) (a .prev) (a .at) (start .pre .0) (widthOf (a .kind)) pos (narrow b) (said b) (g .0 .0) (g .0 .1 .0) (g .1)
     (c .escaped-sample .result) (c .escaped-sample .ensures)
 
 pub escaped-step-spec : {M : Type 1} → statement M

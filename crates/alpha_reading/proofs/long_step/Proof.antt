@@ -1,10 +1,13 @@
 -- `alpha_reading::long_step` meets its contract.
 -- Assumes nothing.
 use mathlib.Core.Path.{sym, subst}
+use native.Mathlib.Omega.{arith}
 use Rattle.bitstream.specs.Bits.{bitsOf}
-use Rattle.alpha_reading.specs.Steps.{longDue, RunStepped}
-use Rattle.alpha_reading.specs.declared.RunStep.{RunStep}
-use Rattle.alpha_reading.proofs.StepAnswers.{long-stepped-no, long-stepped-low, long-stepped}
+use Rattle.alpha_elements.specs.Decoding.{longTo}
+use Rattle.alpha_elements.proofs.StepLaws.{longTo-run}
+use Rattle.alpha_reading.specs.Steps.{longDue, AlphaRunStepped}
+use Rattle.alpha_reading.specs.declared.AlphaRunStep.{AlphaRunStep}
+use Rattle.alpha_reading.proofs.StepAnswers.{run-field-no, long-low, run-field-on}
 use borrow.Author.Needs.{needs}
 use Rattle.alpha_reading.proofs.long_step.Statement.{statement}
 use Rattle.alpha_reading.proofs.long_step.Tie as tie
@@ -24,7 +27,7 @@ returns c =
     let start = b .before .before in
     let a = start .args in
     let g = c .before .before .read2 .given in
-    long-stepped-low (a .payload .now) (b .read-bits .result) (a .left) (a .at) (start .pre) (b .read-bits .ensures) (g .0 .0) (g .0 .1 .0) (g .1) (c .if1 .taken)
+    long-low (a .payload .now) (b .read-bits .result) (a .left) (a .at) (start .pre) (b .read-bits .ensures) (g .0 .0) (g .0 .1 .0) (g .1) (c .if1 .taken)
 
 cast-run-to : tie.Need-cast-run-to
 cast-run-to c = search needs
@@ -41,7 +44,7 @@ returns-2 c =
     let start = b .before .before in
     let a = start .args in
     let g = c .before .read .given in
-    long-stepped-no (a .payload .now) (b .read-bits .result) (a .left) (a .at) (start .pre) (b .read-bits .ensures) (g .0 .0) (g .1)
+    run-field-no (a .payload .now) (b .read-bits .result) (a .left) (a .at) (start .pre) 11 longTo (omega arith) (b .read-bits .ensures) (g .0 .0) (g .1)
 
 returns-3 : tie.Need-returns-3
 returns-3 c =
@@ -49,8 +52,9 @@ returns-3 c =
     let start = b .before .before in
     let a = start .args in
     let g = c .before .before .before .read2 .given in
-    subst (λ (x : RunStep). RunStepped (bitsOf (a .payload .now)) (a .left) (longDue (a .left) (a .at)) x) (sym (c .run-to .ensures))
-    (long-stepped (a .payload .now) (b .read-bits .result) (a .left) (a .at) (start .pre) (b .read-bits .ensures) (g .0 .0) (g .0 .1 .0) (g .1) (c .before .if1 .left))
+    subst (λ (x : AlphaRunStep). AlphaRunStepped (bitsOf (a .payload .now)) (a .left) (longDue (a .left) (a .at)) x) (sym (c .run-to .ensures))
+    (run-field-on (a .payload .now) (b .read-bits .result) (a .left) (a .at) (start .pre) 11 longTo (omega arith) (b .read-bits .ensures) (g .0 .0) (g .0 .1 .0) (g .1)
+    (λ v. longTo-run (a .left) v (g .0 .0) _ (c .before .if1 .left)))
 
 pub long-step-spec : {M : Type 1} → statement M
 long-step-spec =

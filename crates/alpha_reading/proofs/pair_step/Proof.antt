@@ -4,10 +4,10 @@ use native.Mathlib.Omega.{arith}
 use Prim.Native.Nat.{_-_}
 use mathlib.Core.Path.{_≡_, subst}
 use Rattle.bitstream.specs.Bits.{bitsOf}
-use Rattle.samples.proofs.KindLaws.{sizes}
-use Rattle.alpha_reading.specs.Steps.{differenceDue, SampleStepped, runDue, RunStepped}
+use Rattle.alpha_elements.proofs.KindLaws.{sizes}
+use Rattle.alpha_reading.specs.Steps.{differenceDue, SampleStepped, runDue, AlphaRunStepped}
 use Rattle.alpha_reading.specs.declared.SampleStep.{SampleStep}
-use Rattle.alpha_reading.specs.declared.RunStep.{RunStep}
+use Rattle.alpha_reading.specs.declared.AlphaRunStep.{AlphaRunStep}
 use Rattle.alpha_reading.proofs.Standing.{pair-no, pair-run-no, pair-on}
 use borrow.Author.Needs.{needs}
 use Rattle.alpha_reading.proofs.pair_step.Statement.{statement}
@@ -44,13 +44,13 @@ enum-known-run-2 : tie.Need-enum-known-run-2
 enum-known-run-2 c = search needs
 
 -- what the run came to
-ran : (c : tie.After-run-step) (x : RunStep) → c .run-step .result ≡ x → let s = c .before .before .before .sample2 .given in
+ran : (c : tie.After-run-step) (x : AlphaRunStep) → c .run-step .result ≡ x → let s = c .before .before .before .sample2 .given in
     let a = c .before .before .before .before .before .before .before .args in
-    RunStepped (bitsOf (a .payload .now)) (a .total - a .s .place) (runDue (a .total - a .s .place) (s .0 .1 .0)) x
+    AlphaRunStepped (bitsOf (a .payload .now)) (a .total - a .s .place) (runDue (a .total - a .s .place) (s .0 .1 .0)) x
 ran c x e =
     let s = c .before .before .before .sample2 .given in
     let a = c .before .before .before .before .before .before .before .args in
-    subst (λ (y : RunStep). RunStepped (bitsOf (a .payload .now)) (a .total - a .s .place) (runDue (a .total - a .s .place) (s .0 .1 .0)) y) e (c .run-step .ensures)
+    subst (λ (y : AlphaRunStep). AlphaRunStepped (bitsOf (a .payload .now)) (a .total - a .s .place) (runDue (a .total - a .s .place) (s .0 .1 .0)) y) e (c .run-step .ensures)
 
 add-place : tie.Need-add-place
 add-place c =

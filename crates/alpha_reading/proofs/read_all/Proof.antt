@@ -3,19 +3,21 @@
 -- Assumes nothing.
 use Prim.Native.Nat.{_-_}
 use native.Mathlib.Omega.{arith}
-use mathlib.Core.Path.{_≡_, ap, subst, _∙_}
-use lib.ListN.{length}
+use mathlib.Core.Path.{_≡_, subst}
+use lib.ListN.{length, take}
+use Rattle.answers.specs.Refusals.{numberOf}
+use Rattle.answers.proofs.StandLaws.{rejects-settled, stands-rejects}
 use Rattle.bitstream.specs.Bits.{bitsOf}
-use Rattle.bitstream.specs.declared.Reached.{Reached}
-use Rattle.alpha_reading.specs.Steps.{PairStepped, Stands, reachedSays}
+use Rattle.alpha_elements.specs.Decoding.{alphaStep, alphaFinish}
+use Rattle.alpha_reading.specs.Steps.{AlphaPairStepped, AlphaStands}
 use Rattle.alpha_reading.specs.declared.PairStep.{PairStep}
-use Rattle.alpha_reading.proofs.Standing.{stands-start, stands-fill, stands-rejects, stands-end}
+use Rattle.alpha_reading.proofs.Standing.{stands-start, stands-fill, stands-end}
 use borrow.Author.Needs.{needs}
 use Rattle.alpha_reading.proofs.read_all.Statement.{statement}
 use Rattle.alpha_reading.proofs.read_all.Tie as tie
 
 abbrev Inv-loop : tie.InvT-loop
-Inv-loop payload kind out₀ total s₀ out s = Stands (bitsOf payload) kind (length out₀) s out
+Inv-loop payload kind out₀ total s₀ out s = AlphaStands (bitsOf payload) kind (length out₀) s out
 
 abbrev μ-loop : tie.MeasureT-loop
 μ-loop payload kind out₀ total s₀ out s = length out₀ - s .place
@@ -32,16 +34,16 @@ pair-step-requires : tie.Need-pair-step-requires Inv-loop μ-loop
 pair-step-requires c κs =
     let at = c .before .before in
     let i = at .loop .inv in
-    (record { fits = at .before .before .before .before .pre .0; within = i .within }, c .if1 .taken, i .range)
+    (record { fits = at .before .before .before .before .pre .0; within = i .stands .within }, c .if1 .taken, i .range)
 
 -- what the pair's step answered
 paired : (c : tie.After-pair-step Inv-loop μ-loop) (x : PairStep) → c .pair-step .result ≡ x → let at = c .before .before .before in
     let a = at .before .before .before .before .args in
-    PairStepped (bitsOf (a .payload .now)) (a .kind) (length (a .out .now)) (at .loop .s) x
+    AlphaPairStepped (bitsOf (a .payload .now)) (a .kind) (length (a .out .now)) (at .loop .s) x
 paired c x e =
     let at = c .before .before .before in
     let a = at .before .before .before .before .args in
-    subst (λ (y : PairStep). PairStepped (bitsOf (a .payload .now)) (a .kind) (length (a .out .now)) (at .loop .s) y) e (c .pair-step .ensures)
+    subst (λ (y : PairStep). AlphaPairStepped (bitsOf (a .payload .now)) (a .kind) (length (a .out .now)) (at .loop .s) y) e (c .pair-step .ensures)
 
 enum-known-got : tie.Need-enum-known-got Inv-loop μ-loop
 enum-known-got c = search needs
@@ -53,7 +55,10 @@ returns : tie.Need-returns Inv-loop μ-loop
 returns c =
     let d = c .before .before .before in
     let g = c .before .got .given in
-    stands-rejects (d .before .before .before .loop .inv) (g .0 .0) (paired d _ (g .1))
+    let l = d .before .before .before .loop in
+    let a = d .before .before .before .before .before .before .before .args in
+    rejects-settled 0 (bitsOf (a .payload .now)) (length (a .out .now)) (numberOf (g .0 .0))
+    (stands-rejects (alphaStep (a .kind)) alphaFinish (l .inv .stands) (numberOf (g .0 .0)) (paired d _ (g .1) (take (l .s .place) (l .out))))
 
 enum-known-got-2 : tie.Need-enum-known-got-2 Inv-loop μ-loop
 enum-known-got-2 c = search needs
@@ -90,22 +95,19 @@ loop-again : tie.Need-loop-again Inv-loop μ-loop
 loop-again c =
     let d = c .before .before .before .before .before .before .before in
     let g = c .before .before .before .before .before .got2 .given in
-    stands-fill (d .before .before .before .loop .inv) (g .0 .0) (g .0 .1 .0) (c .before .before .fill .last .0) (paired d _ (g .1)) (c .before .before .fill .ensures)
+    stands-fill (d .before .before .before .loop .inv) (g .0 .0) (g .0 .1 .0) (paired d _ (g .1)) (c .before .before .fill .last .0) (c .before .before .fill .ensures)
 
 end-requires : tie.Need-end-requires Inv-loop μ-loop
 end-requires c κs =
     let at = c .before .before in
-    record { fits = at .before .before .before .before .pre .0; within = at .loop .inv .within }
+    record { fits = at .before .before .before .before .pre .0; within = at .loop .inv .stands .within }
 
 same-length-2 : tie.Need-same-length-2 Inv-loop μ-loop
 same-length-2 c = c .before .before .before .loop .inv .long
 
 returns-2 : tie.Need-returns-2 Inv-loop μ-loop
 returns-2 c =
-    let e = c .before in
-    let at = e .before .before in
-    let a = at .before .before .before .before .args in
-    ap (λ (r : Reached). reachedSays (length (a .out .now)) r (at .loop .out)) (c .end .ensures) ∙ stands-end (at .loop .inv) (e .if1 .left)
+    stands-end (c .before .before .before .loop .inv) (c .before .if1 .left) (c .end .result) (c .end .ensures)
 
 pub read-all-spec : {M : Type 1} → statement M
 read-all-spec =

@@ -3,8 +3,8 @@
 use mathlib.Core.Path.{sym, subst}
 use Rattle.bitstream.specs.Bits.{bitsOf}
 use Rattle.bitstream.proofs.AnswerLaws.{bit-placed}
-use Rattle.alpha_reading.specs.Steps.{runDue, RunStepped}
-use Rattle.alpha_reading.specs.declared.RunStep.{RunStep}
+use Rattle.alpha_reading.specs.Steps.{runDue, AlphaRunStepped}
+use Rattle.alpha_reading.specs.declared.AlphaRunStep.{AlphaRunStep}
 use Rattle.alpha_reading.proofs.StepAnswers.{run-stepped-no, run-one, run-short}
 use borrow.Author.Needs.{needs}
 use Rattle.alpha_reading.proofs.run_step.Statement.{statement}
@@ -28,7 +28,7 @@ returns c =
     let start = b .before .before in
     let a = start .args in
     let g = c .before .before .before .read2 .given in
-    subst (λ (x : RunStep). RunStepped (bitsOf (a .payload .now)) (a .left) (runDue (a .left) (a .at)) x) (sym (c .run-to .ensures))
+    subst (λ (x : AlphaRunStep). AlphaRunStepped (bitsOf (a .payload .now)) (a .left) (runDue (a .left) (a .at)) x) (sym (c .run-to .ensures))
     (run-one (a .payload .now) (b .read-bit .result) (a .left) (a .at) (start .pre) (b .read-bit .ensures) (g .0 .0) (g .0 .1 .0) (g .1) (c .before .if1 .taken))
 
 short-step-requires : tie.Need-short-step-requires

@@ -1,10 +1,14 @@
 -- `alpha_reading::short_step` meets its contract.
 -- Assumes nothing.
 use mathlib.Core.Path.{sym, subst}
+use native.Mathlib.Omega.{arith}
 use Rattle.bitstream.specs.Bits.{bitsOf}
-use Rattle.alpha_reading.specs.Steps.{shortDue, RunStepped}
-use Rattle.alpha_reading.specs.declared.RunStep.{RunStep}
-use Rattle.alpha_reading.proofs.StepAnswers.{short-stepped-no, long-placed, short-long, short-stepped}
+use Rattle.bitstream.proofs.AnswerLaws.{field-placed}
+use Rattle.alpha_elements.specs.Decoding.{shortTo}
+use Rattle.alpha_elements.proofs.StepLaws.{shortTo-run}
+use Rattle.alpha_reading.specs.Steps.{shortDue, AlphaRunStepped}
+use Rattle.alpha_reading.specs.declared.AlphaRunStep.{AlphaRunStep}
+use Rattle.alpha_reading.proofs.StepAnswers.{run-field-no, short-long, run-field-on}
 use borrow.Author.Needs.{needs}
 use Rattle.alpha_reading.proofs.short_step.Statement.{statement}
 use Rattle.alpha_reading.proofs.short_step.Tie as tie
@@ -24,7 +28,7 @@ long-step-requires c κs =
     let start = b .before .before in
     let a = start .args in
     let g = c .before .before .read2 .given in
-    long-placed (a .payload .now) (b .read-bits .result) (a .left) (a .at) (start .pre) (b .read-bits .ensures) (g .0 .0) (g .0 .1 .0) (g .1)
+    field-placed (a .payload .now) (a .at) 4 (b .read-bits .result) (start .pre) (omega arith) (b .read-bits .ensures) (g .0 .0) (g .0 .1 .0) (g .1)
 
 returns : tie.Need-returns
 returns c =
@@ -50,7 +54,7 @@ returns-2 c =
     let start = b .before .before in
     let a = start .args in
     let g = c .before .read .given in
-    short-stepped-no (a .payload .now) (b .read-bits .result) (a .left) (a .at) (start .pre) (b .read-bits .ensures) (g .0 .0) (g .1)
+    run-field-no (a .payload .now) (b .read-bits .result) (a .left) (a .at) (start .pre) 4 shortTo (omega arith) (b .read-bits .ensures) (g .0 .0) (g .1)
 
 returns-3 : tie.Need-returns-3
 returns-3 c =
@@ -58,8 +62,9 @@ returns-3 c =
     let start = b .before .before in
     let a = start .args in
     let g = c .before .before .before .read2 .given in
-    subst (λ (x : RunStep). RunStepped (bitsOf (a .payload .now)) (a .left) (shortDue (a .left) (a .at)) x) (sym (c .run-to .ensures))
-    (short-stepped (a .payload .now) (b .read-bits .result) (a .left) (a .at) (start .pre) (b .read-bits .ensures) (g .0 .0) (g .0 .1 .0) (g .1) (c .before .if1 .left))
+    subst (λ (x : AlphaRunStep). AlphaRunStepped (bitsOf (a .payload .now)) (a .left) (shortDue (a .left) (a .at)) x) (sym (c .run-to .ensures))
+    (run-field-on (a .payload .now) (b .read-bits .result) (a .left) (a .at) (start .pre) 4 shortTo (omega arith) (b .read-bits .ensures) (g .0 .0) (g .0 .1 .0) (g .1)
+    (λ v. shortTo-run (a .left) v (g .0 .0) _ (omega (arith, c .before .if1 .left))))
 
 pub short-step-spec : {M : Type 1} → statement M
 short-step-spec =

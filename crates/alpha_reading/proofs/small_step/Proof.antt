@@ -1,13 +1,15 @@
 -- `alpha_reading::small_step` meets its contract.
 -- Assumes nothing.
-use Prim.Native.Nat.{ℕ, _+_}
+use Prim.Native.Nat.{ℕ, _+_, _≤_}
 use native.Mathlib.Omega.{arith}
 use mathlib.Core.Path.{_≡_, ap, _∙_}
 use Rattle.bitstream.specs.Reading.{readBits}
-use Rattle.bitstream.specs.Told.{told, outcomeAt}
-use Rattle.samples.specs.Kinds.{smallWidthOf}
-use Rattle.samples.proofs.KindLaws.{sizes}
-use Rattle.alpha_reading.proofs.StepAnswers.{small-stepped-no, small-lt, small-stepped}
+use Rattle.bitstream.specs.Told.{toldRead, outcomeAt}
+use Rattle.alpha_elements.specs.Kinds.{smallWidthOf}
+use Rattle.bitstream.proofs.AnswerLaws.{field-lt}
+use Rattle.alpha_elements.proofs.KindLaws.{pow-small-sign, sizes}
+use Rattle.alpha_reading.specs.Steps.{smallSpelt}
+use Rattle.alpha_reading.proofs.StepAnswers.{field-stepped-no, field-stepped}
 use borrow.Author.Needs.{needs}
 use Rattle.alpha_reading.proofs.small_step.Statement.{statement}
 use Rattle.alpha_reading.proofs.small_step.Tie as tie
@@ -29,10 +31,13 @@ enum-known-read-2 c = search needs
 
 -- what was read is a field of the kind's width, and a bit
 said : (c : tie.After-read-bits) → let a = c .before .before .before .args in
-    told (c .read-bits .result) ≡ outcomeAt (readBits (smallWidthOf (a .kind) + 1)) (a .payload .now) (a .at)
+    toldRead (c .read-bits .result) ≡ outcomeAt (readBits (smallWidthOf (a .kind) + 1)) (a .payload .now) (a .at)
 said c =
     let a = c .before .before .before .args in
     c .read-bits .ensures ∙ ap (λ (w : ℕ). outcomeAt (readBits (w + 1)) (a .payload .now) (a .at)) (c .before .small-width .ensures)
+
+narrow : (c : tie.After-read-bits) → smallWidthOf (c .before .before .before .args .kind) + 1 ≤ 32
+narrow c = omega (arith, sizes (c .before .before .before .args .kind) .small)
 
 small-sample-requires : tie.Need-small-sample-requires
 small-sample-requires c κs =
@@ -40,7 +45,7 @@ small-sample-requires c κs =
     let start = b .before .before .before in
     let a = start .args in
     let g = c .before .read2 .given in
-    (start .pre .1, small-lt (a .payload .now) (b .read-bits .result) (a .kind) (a .prev) (a .at) (start .pre .0) (said b) (g .0 .0) (g .0 .1 .0) (g .1))
+    (start .pre .1, omega (arith, field-lt (a .payload .now) (a .at) (smallWidthOf (a .kind) + 1) (b .read-bits .result) (start .pre .0) (narrow b) (said b) (g .0 .0) (g .0 .1 .0) (g .1), pow-small-sign (a .kind)))
 
 returns : tie.Need-returns
 returns c =
@@ -48,7 +53,7 @@ returns c =
     let start = b .before .before .before in
     let a = start .args in
     let g = c .before .read .given in
-    small-stepped-no (a .payload .now) (b .read-bits .result) (a .kind) (a .prev) (a .at) (start .pre .0) (said b) (g .0 .0) (g .1)
+    field-stepped-no (a .payload .now) (b .read-bits .result) (a .kind) (a .prev) (a .at) (start .pre .0) (smallWidthOf (a .kind) + 1) smallSpelt (narrow b) (said b) (g .0 .0) (g .1)
 
 returns-2 : tie.Need-returns-2
 returns-2 c =
@@ -56,7 +61,7 @@ returns-2 c =
     let start = b .before .before .before in
     let a = start .args in
     let g = c .before .before .read2 .given in
-    small-stepped (a .payload .now) (b .read-bits .result) (a .kind) (a .prev) (a .at) (start .pre .0) (said b) (g .0 .0) (g .0 .1 .0) (g .1)
+    field-stepped (a .payload .now) (b .read-bits .result) (a .kind) (a .prev) (a .at) (start .pre .0) (smallWidthOf (a .kind) + 1) smallSpelt (narrow b) (said b) (g .0 .0) (g .0 .1 .0) (g .1)
     (c .small-sample .result) (c .small-sample .ensures)
 
 pub small-step-spec : {M : Type 1} → statement M

@@ -7,15 +7,15 @@ use native.Mathlib.Omega.{arith}
 use borrow.Author.Needs.{needs}
 use lib.Dec.{ltb}
 use lib.ListN.{length, drop}
-use Rattle.samples.specs.declared.AlphaChannelType.{AlphaChannelType}
-use Rattle.samples.specs.Kinds.{maskOf}
-use Rattle.samples.specs.Limits.{inRange}
+use Rattle.alpha_elements.specs.declared.AlphaChannelType.{AlphaChannelType}
+use Rattle.alpha_elements.specs.Kinds.{maskOf}
+use Rattle.alpha_elements.specs.Limits.{samplesInRange}
 use Rattle.alpha_writing.proofs.RangeLaws.{range-more, range-all}
 use Rattle.alpha_writing.proofs.out_of_range.Statement.{statement}
 use Rattle.alpha_writing.proofs.out_of_range.Tie as tie
 
 abbrev Inv-loop : tie.InvT-loop
-Inv-loop samples mask wrong₀ i₀ wrong i = (k : AlphaChannelType) → mask ≡ maskOf k → not (inRange k samples) ≡ (wrong || not (inRange k (drop i samples)))
+Inv-loop samples mask wrong₀ i₀ wrong i = (k : AlphaChannelType) → mask ≡ maskOf k → not (samplesInRange k samples) ≡ (wrong || not (samplesInRange k (drop i samples)))
 
 abbrev μ-loop : tie.MeasureT-loop
 μ-loop samples mask wrong₀ i₀ wrong i = length samples - i
@@ -48,7 +48,7 @@ loop-again c k mask =
     let l = at .loop in
     let m = at .before .mask .result in
     l .inv k mask ∙ range-more k s (l .i) (l .wrong) m mask (omega arith)
-    ∙ ap (λ (x : ℕ). (l .wrong || ltb m x) || not (inRange k (drop (l .i + 1) s))) (sym (c .wide .ensures))
+    ∙ ap (λ (x : ℕ). (l .wrong || ltb m x) || not (samplesInRange k (drop (l .i + 1) s))) (sym (c .wide .ensures))
 
 returns : tie.Need-returns Inv-loop μ-loop
 returns c =

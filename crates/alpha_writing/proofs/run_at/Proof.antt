@@ -5,7 +5,7 @@ use Prim.Native.Nat.{_-_, _≤_, _<_}
 use native.Mathlib.Omega.{arith}
 use borrow.Author.Needs.{needs}
 use lib.ListN.{length}
-use Rattle.alpha_writing.specs.Writing.{Stop}
+use Rattle.alpha_writing.specs.Writing.{RunStop}
 use Rattle.alpha_writing.proofs.RunLaws.{Along, along-start, along-next, along-other, along-stop}
 use Rattle.alpha_writing.proofs.run_at.Statement.{statement}
 use Rattle.alpha_writing.proofs.run_at.Tie as tie
@@ -73,7 +73,7 @@ returns-2 c =
     let a = c .before .before .before .before .before .args in
     let l = c .before .loop in
     let there : c .before .before .run-stop .result ≡ l .e = omega (arith, l .inv .1) in
-    along-stop (a .samples .now) (a .i) (l .e) (l .inv .0) (l .inv .2) (subst (Stop (length (a .samples .now)) (a .i)) there (c .before .before .run-stop .ensures))
+    along-stop (a .samples .now) (a .i) (l .e) (l .inv .0) (l .inv .2) (subst (RunStop (length (a .samples .now)) (a .i)) there (c .before .before .run-stop .ensures))
 
 pub run-at-spec : {M : Type 1} → statement M
 run-at-spec =

@@ -10,18 +10,18 @@ use Rattle.bitstream.specs.Puts.{Doing}
 use Rattle.bitstream.proofs.FieldLaws.{length-field}
 use Rattle.bitstream.proofs.PutLaws.{held-none, puts-at}
 use Rattle.bitstream.proofs.DoingLaws.{doing-start, doing-more, doing-at, doing-last, doing-room}
-use Rattle.samples.specs.Kinds.{maskOf}
-use Rattle.samples.specs.Elements.{encode}
-use Rattle.samples.proofs.SizeLaws.{encode-most}
+use Rattle.alpha_elements.specs.Kinds.{maskOf}
+use Rattle.alpha_elements.specs.Elements.{encodeAlpha}
+use Rattle.alpha_elements.proofs.SizeLaws.{encode-most}
 use Rattle.alpha_writing.specs.Writing.{codeFrom}
-use Rattle.alpha_writing.proofs.WritingLaws.{start-zero, code-start, code-end, steps-length}
+use Rattle.alpha_writing.proofs.WritingLaws.{start-zero, code-start, code-end, pair-length}
 use Rattle.alpha_writing.proofs.write.Statement.{statement}
 use Rattle.alpha_writing.proofs.write.Tie as tie
 
 abbrev Inv-loop : tie.InvT-loop
 Inv-loop samples kind out₀ prev₀ at₀ i₀ out prev at i =
     (i ≤ length samples) × (prev ≤ maskOf kind + 1) × (length out ≡ length out₀)
-    × Doing out₀ 0 (encode kind samples) out at (codeFrom kind prev (drop i samples))
+    × Doing out₀ 0 (encodeAlpha kind samples) out at (codeFrom kind prev (drop i samples))
 
 abbrev μ-loop : tie.MeasureT-loop
 μ-loop samples kind out₀ prev₀ at₀ i₀ out prev at i = length samples - i
@@ -39,31 +39,31 @@ loop-holds c =
       doing-at (doing-start _ _ _) (sym (code-start (a .kind) (c .start .result) (a .samples .now) start)),
     )
 
-step-at-requires : tie.Need-step-at-requires Inv-loop μ-loop
-step-at-requires c κs =
+pair-at-requires : tie.Need-pair-at-requires Inv-loop μ-loop
+pair-at-requires c κs =
     record { small = c .before .before .before .before .before .pre .1; carried = c .before .loop .inv .1; inside = c .loop-test .taken }
 
 put-requires : tie.Need-put-requires Inv-loop μ-loop
 put-requires c κs =
     let s = c .before .before .before .before .before .before .before in
     let l = c .before .before .before .loop in
-    let step = c .before .step-at .ensures in
+    let pair = c .before .pair-at .ensures in
     let room = doing-room (l .inv .3) in
-    let n = steps-length step in
+    let n = pair-length pair in
     let most = encode-most (s .args .kind) (s .args .samples .now) (s .pre .0) in
-    (omega (arith, step .short), omega (arith, s .pre .2, l .inv .2), omega arith)
+    (omega (arith, pair .short), omega (arith, s .pre .2, l .inv .2), omega arith)
 
 add-i : tie.Need-add-i Inv-loop μ-loop
-add-i c = let s = c .before .before .before .before .before .step-at .ensures in omega (arith, s .inside)
+add-i c = let s = c .before .before .before .before .before .pair-at .ensures in omega (arith, s .inside)
 
 loop-less : tie.Need-loop-less Inv-loop μ-loop
-loop-less c = let s = c .before .before .before .before .before .step-at .ensures in omega (arith, s .some, s .inside)
+loop-less c = let s = c .before .before .before .before .before .pair-at .ensures in omega (arith, s .some, s .inside)
 
 loop-again : tie.Need-loop-again Inv-loop μ-loop
 loop-again c =
     let l = c .before .before .before .before .before .before .before .loop in
-    let r = c .before .before .before .before .before .step-at .result in
-    let s = c .before .before .before .before .before .step-at .ensures in
+    let r = c .before .before .before .before .before .pair-at .result in
+    let s = c .before .before .before .before .before .pair-at .ensures in
     let put = c .before .before .before .put in (
       s .inside,
       s .carried,
@@ -90,7 +90,7 @@ write-spec =
     μ-loop
     start-requires
     loop-holds
-    step-at-requires
+    pair-at-requires
     put-requires
     add-i
     loop-less

@@ -1,17 +1,34 @@
--- `slice_writing::encode_in` meets its contract: the lists are cut to the lengths of their components.
+-- `slice_writing::encode_in` meets its contract: the three lists begin with the scanned ones.
 -- Assumes nothing.
-use Prim.Native.Nat.{ℕ, _-_, _≤_}
-use mathlib.Core.Path.{_≡_}
-use mathlib.Core.List.{List}
-use native.Mathlib.Nat.{sub-zero}
+use Prim.Native.Nat.{_*_, _≤_}
+use mathlib.Core.Path.{sym}
+use native.Mathlib.Nat.{le-refl}
 use native.Mathlib.Omega.{arith}
-use lib.IntN.{ℤ}
-use lib.ListN.{length, take}
+use lib.ListN.{length}
 use lib.Seq.{length-take-le}
 use borrow.Author.Needs.{needs}
-use Rattle.components.proofs.ShapeLaws.{few-long}
+use Rattle.slice_shape.proofs.ShapeLaws.{few-part, few-long}
+use Rattle.slice_writing.proofs.RangeLaws.{scanned-fine}
 use Rattle.slice_writing.proofs.encode_in.Statement.{statement}
 use Rattle.slice_writing.proofs.encode_in.Tie as tie
+
+mul-per : tie.Need-mul-per
+mul-per c = search needs
+
+add-per : tie.Need-add-per
+add-per c = search needs
+
+scan-requires : tie.Need-scan-requires
+scan-requires c κs = search needs
+
+scan-requires-2 : tie.Need-scan-requires-2
+scan-requires-2 c κs = let part = few-part (c .before .before .before .before .before .pre .0 .few) in search needs
+
+add-scan : tie.Need-add-scan
+add-scan c = search needs
+
+scan-requires-3 : tie.Need-scan-requires-3
+scan-requires-3 c κs = let part = few-part (c .before .before .before .before .before .before .before .before .pre .0 .few) in search needs
 
 mul-luma : tie.Need-mul-luma
 mul-luma c = search needs
@@ -25,47 +42,59 @@ mul-chroma c = search needs
 mul-chroma-2 : tie.Need-mul-chroma-2
 mul-chroma-2 c = search needs
 
-sub-encode-scanned : tie.Need-sub-encode-scanned
-sub-encode-scanned c = search needs
+-- behind the three scans: the second of them, the first, and the start
+abbrev second : tie.After-scan3 → tie.After-scan2
+second k = k .before .before .before
 
-part-encode-scanned-start : tie.Need-part-encode-scanned-start
-part-encode-scanned-start c = search needs
+abbrev first : tie.After-scan3 → tie.After-scan
+first k = second k .before .before .before
 
-part-encode-scanned-end : tie.Need-part-encode-scanned-end
-part-encode-scanned-end c = search needs
+abbrev start : tie.After-scan3 → tie.Start
+start k = first k .before .before .before
 
-sub-encode-scanned-2 : tie.Need-sub-encode-scanned-2
-sub-encode-scanned-2 c = search needs
+-- each list has room for its component
+record Inside (k : tie.After-scan3) : Type 0 where
+  y : 64 * (start k .args .mbs * 4) ≤ length (first k .scan .last .1 .0)
+  cb : 64 * (start k .args .mbs * start k .args .c) ≤ length (second k .scan2 .last .1 .0)
+  cr : 64 * (start k .args .mbs * start k .args .c) ≤ length (k .scan3 .last .1 .0)
 
-part-encode-scanned-start-2 : tie.Need-part-encode-scanned-start-2
-part-encode-scanned-start-2 c = search needs
+inside : (k : tie.After-scan3) → Inside k
+inside k =
+    let p = start k .pre in
+    let few = p .0 .few in
+    record {
+      y = omega (arith, first k .scan .kept .1 .0, p .1 .0, few .few-m);
+      cb = omega (arith, second k .scan2 .kept .1 .0, p .1 .1, few-long few);
+      cr = omega (arith, k .scan3 .kept .1 .0, p .1 .2, few-long few);
+    }
 
-part-encode-scanned-end-2 : tie.Need-part-encode-scanned-end-2
-part-encode-scanned-end-2 c = omega (arith, few-long (c .before .before .pre .0 .few))
+slice-reshare-prefix-encode-lists : tie.Need-slice-reshare-prefix-encode-lists
+slice-reshare-prefix-encode-lists c = search needs
 
-sub-encode-scanned-3 : tie.Need-sub-encode-scanned-3
-sub-encode-scanned-3 c = search needs
+slice-aggregate-encode-lists : tie.Need-slice-aggregate-encode-lists
+slice-aggregate-encode-lists c = sym (length-take-le _ _ (inside (c .before .before) .y))
 
-part-encode-scanned-start-3 : tie.Need-part-encode-scanned-start-3
-part-encode-scanned-start-3 c = search needs
+slice-reshare-prefix-encode-lists-2 : tie.Need-slice-reshare-prefix-encode-lists-2
+slice-reshare-prefix-encode-lists-2 c = inside (c .before .before) .cb
 
-part-encode-scanned-end-3 : tie.Need-part-encode-scanned-end-3
-part-encode-scanned-end-3 c = omega (arith, few-long (c .before .before .before .pre .0 .few))
+slice-aggregate-encode-lists-2 : tie.Need-slice-aggregate-encode-lists-2
+slice-aggregate-encode-lists-2 c = sym (length-take-le _ _ (inside (c .before .before .before) .cb))
 
-length-cut : {n : ℕ} (l : List ℤ) → n ≤ length l → length (take (n - 0) l) ≡ n
-length-cut {n} l h = rw sub-zero (length-take-le n l h)
+slice-reshare-prefix-encode-lists-3 : tie.Need-slice-reshare-prefix-encode-lists-3
+slice-reshare-prefix-encode-lists-3 c = inside (c .before .before .before) .cr
 
-encode-scanned-requires : tie.Need-encode-scanned-requires
-encode-scanned-requires c κs =
-    let s = c .before .before .before .before .before in
-    let few = s .pre .0 .few in
-    let long = few-long few in (
-      s .pre .0,
-      record {
-        y = length-cut (s .args .y .now) (omega arith);
-        cb = length-cut (s .args .cb .now) (omega arith);
-        cr = length-cut (s .args .cr .now) (omega arith);
-      },
+slice-aggregate-encode-lists-3 : tie.Need-slice-aggregate-encode-lists-3
+slice-aggregate-encode-lists-3 c = sym (length-take-le _ _ (inside (c .before .before .before .before) .cr))
+
+encode-lists-requires : tie.Need-encode-lists-requires
+encode-lists-requires c κs =
+    let k = c .before .before .before .before .before in
+    let s = start k in
+    let fit = s .pre .0 in
+    let i = s .args .interlaced in (
+      scanned-fine fit i _ _ (le-refl 4) (first k .scan .ensures),
+      scanned-fine fit i _ _ (fit .few .few-c) (second k .scan2 .ensures),
+      scanned-fine fit i _ _ (fit .few .few-c) (k .scan3 .ensures),
     )
 
 same-length : tie.Need-same-length
@@ -81,26 +110,31 @@ same-length-4 : tie.Need-same-length-4
 same-length-4 c = search needs
 
 returns : tie.Need-returns
-returns c = search needs
+returns c =
+    let k = c .before .before .before .before .before .before .before .before in
+    rw (← first k .scan .ensures, ← second k .scan2 .ensures, ← k .scan3 .ensures) (c .before .before .encode-lists .ensures)
 
 pub encode-in-spec : {M : Type 1} → statement M
 encode-in-spec =
     tie.close
     (tie.spec
+    mul-per
+    add-per
+    scan-requires
+    scan-requires-2
+    add-scan
+    scan-requires-3
     mul-luma
     mul-luma-2
     mul-chroma
     mul-chroma-2
-    sub-encode-scanned
-    part-encode-scanned-start
-    part-encode-scanned-end
-    sub-encode-scanned-2
-    part-encode-scanned-start-2
-    part-encode-scanned-end-2
-    sub-encode-scanned-3
-    part-encode-scanned-start-3
-    part-encode-scanned-end-3
-    encode-scanned-requires
+    slice-reshare-prefix-encode-lists
+    slice-aggregate-encode-lists
+    slice-reshare-prefix-encode-lists-2
+    slice-aggregate-encode-lists-2
+    slice-reshare-prefix-encode-lists-3
+    slice-aggregate-encode-lists-3
+    encode-lists-requires
     same-length
     same-length-2
     same-length-3

@@ -6,7 +6,8 @@ use Prim.Native.Nat.{ℕ, _+_, _-_, _≤_, _<_}
 use native.Mathlib.Omega.{arith}
 use lib.ListN.{length, drop, length-drop}
 use Rattle.bitstream.specs.Bits.{bitsOf}
-use Rattle.bitstream.specs.Reading.{Parsed, readBits}
+use Rattle.answers.specs.Reading.{Parsed}
+use Rattle.bitstream.specs.Reading.{readBits}
 use Rattle.bitstream.specs.Told.{payloadLimit, gives, outcome, outcomeAt}
 use Rattle.bitstream.proofs.BitsLaws.{length-bits}
 use Rattle.bitstream.proofs.ReadLaws.{readBits-wide, readBits-field, readField-short, readField-all, outcomeAt-fits, outcomeAt-long}

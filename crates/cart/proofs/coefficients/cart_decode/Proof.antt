@@ -1,8 +1,9 @@
 -- `cart::coefficients::cart_decode` meets its contract.
 -- Assumes nothing.
+use Prim.Native.Nat.{ℕ}
 use mathlib.Core.Path.{ap, _∙_}
-use Rattle.numbers.specs.Numbers.{decodeNumbers}
-use Rattle.cart.specs.Coefficients.{ByteDecoding}
+use Rattle.cart_numbers.specs.Numbers.{decodeNumbers}
+use Rattle.answers.specs.Answers.{Decoding}
 use borrow.Author.Needs.{needs}
 use Rattle.cart.proofs.coefficients.cart_decode.Statement.{statement}
 use Rattle.cart.proofs.coefficients.cart_decode.Tie as tie
@@ -19,7 +20,7 @@ same-length c = search needs
 returns : tie.Need-returns
 returns c =
     let e = c .before .before .before .decode-bytes .ensures in
-    (ap (λ (x : ByteDecoding). x .bytes) e, c .decode-numbers .ensures ∙ ap (λ (x : ByteDecoding). decodeNumbers (x .answer)) e)
+    (ap (λ (x : Decoding ℕ). x .list) e, c .decode-numbers .ensures ∙ ap (λ (x : Decoding ℕ). decodeNumbers (x .answer)) e)
 
 pub cart-decode-spec : {M : Type 1} → statement M
 cart-decode-spec =

@@ -1,8 +1,8 @@
 -- `cart::coefficients::cart_encode` meets its contract.
 -- Assumes nothing.
 use mathlib.Core.Path.{ap, _∙_}
-use Rattle.elements.specs.Answers.{Encoding}
-use Rattle.numbers.specs.Numbers.{encodeNumbers}
+use Rattle.answers.specs.Answers.{Encoding, Size}
+use Rattle.cart_numbers.specs.Numbers.{encodeNumbers}
 use borrow.Author.Needs.{needs}
 use Rattle.cart.proofs.coefficients.cart_encode.Statement.{statement}
 use Rattle.cart.proofs.coefficients.cart_encode.Tie as tie
@@ -19,7 +19,7 @@ same-length c = search needs
 returns : tie.Need-returns
 returns c =
     let e = c .before .before .before .encode-bytes .ensures in
-    (ap (λ (x : Encoding). x .buffer) e, c .encode-numbers .ensures ∙ ap (λ (x : Encoding). encodeNumbers (x .answer)) e)
+    (ap (λ (x : Encoding Size). x .buffer) e, c .encode-numbers .ensures ∙ ap (λ (x : Encoding Size). encodeNumbers (x .answer)) e)
 
 pub cart-encode-spec : {M : Type 1} → statement M
 cart-encode-spec =

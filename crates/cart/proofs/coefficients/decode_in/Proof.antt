@@ -1,48 +1,60 @@
 -- `cart::coefficients::decode_in` meets its contract: the first 64 x blocks places of the list are a quarter of as many bytes.
 -- Assumes nothing.
 use Prim.Native.Nat.{_*_}
-use mathlib.Core.Path.{sym, _∙_}
 use native.Mathlib.Omega.{arith}
-use lib.ListN.{take}
+use mathlib.Core.Path.{_≡_, sym, ap, _∙_}
+use lib.ListN.{length, take}
 use lib.Seq.{length-take-le}
-use Rattle.cart.proofs.CoefficientLaws.{decode-many, decode-long, decode-not-full, decode-full}
+use Rattle.answers.specs.Answers.{fit}
+use Rattle.answers.specs.Told.{toldArguments}
+use Rattle.entropy_elements.specs.Answers.{coefficientArguments}
+use Rattle.entropy_elements.proofs.ArgumentLaws.{Taken, taken-of}
+use Rattle.cart.proofs.CoefficientLaws.{decode-unfit, decode-fit}
 use borrow.Author.Needs.{needs}
 use Rattle.cart.proofs.coefficients.decode_in.Statement.{statement}
 use Rattle.cart.proofs.coefficients.decode_in.Tie as tie
 
-returns : tie.Need-returns
-returns c =
-    let a = c .before .before .before .args in
-    sym (decode-many (a .payload .now) (a .blocks) (a .coeffs .now) (c .if1 .taken))
+test-requires : tie.Need-test-requires
+test-requires c κs = search needs
 
-returns-2 : tie.Need-returns-2
-returns-2 c =
-    let a = c .before .before .before .before .args in
-    sym (decode-long (a .payload .now) (a .blocks) (a .coeffs .now) (c .before .if1 .left) (c .if2 .taken))
+enum-known-tested : tie.Need-enum-known-tested
+enum-known-tested c = search needs
 
-mul-if3 : tie.Need-mul-if3
-mul-if3 c = search needs
+enum-told : tie.Need-enum-told
+enum-told c = search needs
 
-returns-3 : tie.Need-returns-3
-returns-3 c =
-    let a = c .before .before .before .before .before .args in
-    sym (decode-not-full (a .payload .now) (a .blocks) (a .coeffs .now) (c .before .before .if1 .left) (c .before .if2 .left) (c .if3 .taken))
+fits : (c : tie.After-enum-told) → let a = c .before .before .before .before .before .args in coefficientArguments 256 (length (a .payload .now)) (a .blocks) (length (a .coeffs .now)) ≡ fit
+fits c = sym (c .before .before .test .ensures) ∙ ap toldArguments (c .enum-told .given .1)
+
+taken : (c : tie.After-enum-told) → let a = c .before .before .before .before .before .args in Taken 256 (length (a .payload .now)) (a .blocks) (length (a .coeffs .now))
+taken c = let a = c .before .before .before .before .before .args in taken-of 256 (length (a .payload .now)) (a .blocks) (length (a .coeffs .now)) (fits c)
+
+-- the part of the list that is lent
+part : (c : tie.After-enum-told) → let a = c .before .before .before .before .before .args in length (take (64 * a .blocks) (a .list .now)) ≡ 64 * a .blocks
+part c =
+    let start = c .before .before .before .before .before in
+    length-take-le (64 * start .args .blocks) (start .args .list .now) (omega (arith, taken c .few, start .pre))
 
 mul-n : tie.Need-mul-n
-mul-n c = search needs
+mul-n c = omega (arith, taken c .few)
 
 slice-relend-prefix-decode-through : tie.Need-slice-relend-prefix-decode-through
-slice-relend-prefix-decode-through c = search needs
+slice-relend-prefix-decode-through c = omega (arith, taken c .few, c .before .before .before .before .before .pre)
 
 slice-aggregate-decode-through : tie.Need-slice-aggregate-decode-through
-slice-aggregate-decode-through c =
-    let a = c .before .before .before .before .before .before .args in
-    sym (length-take-le (64 * a .blocks) (a .list .now) (omega arith))
+slice-aggregate-decode-through c = sym (part (c .before))
 
 decode-through-requires : tie.Need-decode-through-requires
 decode-through-requires c κs =
-    let a = c .before .before .before .before .before .before .before .args in
-    omega (arith, length-take-le (64 * a .blocks) (a .list .now) (omega arith))
+    let t = taken (c .before .before) in
+    let long = part (c .before .before) in
+    (t .short, t .few, long, t .full)
+
+returns : tie.Need-returns
+returns c =
+    let t = c .before .before .before in
+    let a = t .before .before .before .args in
+    sym (decode-unfit (a .payload .now) (a .blocks) (a .coeffs .now) (sym (t .test .ensures) ∙ ap toldArguments (c .before .tested .given .1)))
 
 same-length : tie.Need-same-length
 same-length c = search needs
@@ -50,29 +62,25 @@ same-length c = search needs
 same-length-2 : tie.Need-same-length-2
 same-length-2 c = search needs
 
-returns-4 : tie.Need-returns-4
-returns-4 c =
-    let e = c .before .before .before .before .before .before in
+returns-2 : tie.Need-returns-2
+returns-2 c =
+    let d = c .before .before .before in
+    let e = d .before .before .before in
     let a = e .before .before .before .before .before .args in
-    let list = take (64 * a .blocks) (a .list .now) in
-    c .before .before .before .decode-through .ensures
-    ∙ sym
-    (decode-full (a .payload .now) (a .blocks) (a .coeffs .now) (e .before .before .if1 .left) (e .before .if2 .left) list
-    (length-take-le (64 * a .blocks) (a .list .now) (omega arith))
-    (e .if3 .left))
+    d .decode-through .ensures ∙ sym (decode-fit (a .payload .now) (a .blocks) (a .coeffs .now) (fits e))
 
 pub decode-in-spec : {M : Type 1} → statement M
 decode-in-spec =
     tie.close
     (tie.spec
-    returns
-    returns-2
-    mul-if3
-    returns-3
+    test-requires
+    enum-known-tested
+    enum-told
     mul-n
     slice-relend-prefix-decode-through
     slice-aggregate-decode-through
     decode-through-requires
+    returns
     same-length
     same-length-2
-    returns-4)
+    returns-2)

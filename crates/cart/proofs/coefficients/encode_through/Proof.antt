@@ -1,9 +1,13 @@
 -- `cart::coefficients::encode_through` meets its contract.
 -- Assumes nothing.
-use mathlib.Core.Path.{ap, _∙_}
+use native.Mathlib.Omega.{arith}
+use mathlib.Core.Path.{sym, ap, _∙_}
 use mathlib.Core.List.{List}
 use lib.IntN.{ℤ}
-use Rattle.elements.specs.Answers.{encodeOf}
+use lib.ListN.{length}
+use Rattle.cart_bytes.specs.Bytes.{intsOf}
+use Rattle.entropy_elements.specs.Answers.{encodeOf}
+use Rattle.entropy_elements.proofs.ArgumentLaws.{arguments-taken, encodeOf-fit}
 use borrow.Author.Needs.{needs}
 use Rattle.cart.proofs.coefficients.encode_through.Statement.{statement}
 use Rattle.cart.proofs.coefficients.encode_through.Tie as tie
@@ -23,8 +27,12 @@ same-length-2 c = search needs
 returns : tie.Need-returns
 returns c =
     let l = c .before .before .before .before .before .before in
-    let a = l .before .before .before .before .args in
-    c .before .before .encode-scanned-coefficients .ensures ∙ ap (λ (cs : List ℤ). encodeOf cs (a .blocks) (a .out .now)) (l .load .ensures)
+    let start = l .before .before .before .before in
+    let a = start .args in
+    let long = ap length (sym (l .load .ensures)) ∙ l .load .kept .1 .0 ∙ start .pre .1 in
+    c .before .before .encode-scanned-coefficients .ensures
+    ∙ ap (λ (cs : List ℤ). encodeOf cs (a .blocks) (a .out .now)) (l .load .ensures)
+    ∙ encodeOf-fit (intsOf (a .coeffs .now)) (a .blocks) (a .out .now) (arguments-taken 64 0 (a .blocks) (length (intsOf (a .coeffs .now))) (start .pre .0) (omega arith) long)
 
 pub encode-through-spec : {M : Type 1} → statement M
 encode-through-spec =

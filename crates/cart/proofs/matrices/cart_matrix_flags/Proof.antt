@@ -2,8 +2,8 @@
 -- Assumes nothing.
 use mathlib.Core.Path.{refl, ap, _∙_}
 use borrow.Author.Needs.{needs}
-use Rattle.numbers.specs.Numbers.{flagOf}
-use Rattle.numbers.proofs.FlagLaws.{flag-byte}
+use Rattle.bitstream.specs.Bits.{val}
+use Rattle.bitstream.proofs.PlaceLaws.{byte-val}
 use Rattle.cart.proofs.matrices.cart_matrix_flags.Statement.{statement}
 use Rattle.cart.proofs.matrices.cart_matrix_flags.Tie as tie
 
@@ -30,7 +30,7 @@ returns c =
     let v = c .before .before .weights-valid in
     let l = c .before .load-luma in
     let r = c .load-chroma in
-    (refl, (flag-byte (v .result) ∙ ap flagOf (v .ensures), (flag-byte (l .result) ∙ ap flagOf (l .ensures), flag-byte (r .result) ∙ ap flagOf (r .ensures))))
+    (refl, (byte-val (v .result) ∙ ap val (v .ensures), (byte-val (l .result) ∙ ap val (l .ensures), byte-val (r .result) ∙ ap val (r .ensures))))
 
 pub cart-matrix-flags-spec : {M : Type 1} → statement M
 cart-matrix-flags-spec =

@@ -5,7 +5,7 @@ use Prim.Native.Nat.{ℕ, _+_, _-_, _*_, _^_, _≤_}
 use native.Mathlib.Nat.{mul-le-mul}
 use native.Mathlib.Omega.{arith}
 use lib.Pow.{pow-mono}
-use Rattle.bitstream.specs.Reading.{Reader}
+use Rattle.answers.specs.Reading.{Reader}
 use Rattle.bitstream.specs.Told.{outcomeAt}
 use Rattle.bitstream.proofs.ReadLaws.{outcomeAt-long}
 use Rattle.codeword.specs.Codewords.{suffix, readSuffix}

@@ -2,7 +2,8 @@
 -- Assumes nothing.
 use mathlib.Core.Path.{_≡_, sym, ap, _∙_}
 use Rattle.bitstream.specs.Reading.{zeroPrefix}
-use Rattle.bitstream.specs.Told.{told, numberOf, gives, outcomeAt}
+use Rattle.bitstream.specs.Told.{toldRead, gives, outcomeAt}
+use Rattle.answers.specs.Refusals.{numberOf}
 use Rattle.codeword.specs.declared.Codebook.the-variants.{RiceExp}
 use Rattle.codeword.proofs.AnswerLaws.{code-stop, code-after, zeros-few}
 use borrow.Author.Needs.{needs}
@@ -21,7 +22,7 @@ enum-known-zeros-2 c = search needs
 -- the zeros that were told
 found : (c : tie.After-known-told2) → let a = c .before .before .before .before .before .args in let g = c .before .zeros2 .given .0 in
     gives (g .0) (g .1 .0 .at) ≡ outcomeAt (zeroPrefix 64) (a .payload .now) (a .c .at)
-found c = ap told (sym (c .before .zeros2 .given .1)) ∙ c .before .before .before .zero-prefix .ensures
+found c = ap toldRead (sym (c .before .zeros2 .given .1)) ∙ c .before .before .before .zero-prefix .ensures
 
 combo-suffix-requires : tie.Need-combo-suffix-requires
 combo-suffix-requires c κs =
@@ -34,7 +35,7 @@ returns c =
     let b = c .before .before .before in
     let a = b .before .before .args in
     let g = c .before .zeros .given in
-    code-stop (RiceExp (a .last-q) (a .r) (a .e)) (a .payload .now) (a .c .at) (numberOf (g .0 .0)) (ap told (sym (g .1)) ∙ b .zero-prefix .ensures)
+    code-stop (RiceExp (a .last-q) (a .r) (a .e)) (a .payload .now) (a .c .at) (numberOf (g .0 .0)) (ap toldRead (sym (g .1)) ∙ b .zero-prefix .ensures)
 
 returns-2 : tie.Need-returns-2
 returns-2 c =

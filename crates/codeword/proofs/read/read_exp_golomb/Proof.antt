@@ -4,8 +4,10 @@ use mathlib.Core.Path.{_≡_, sym, ap, _∙_}
 use Prim.Native.Nat.{_+_, _-_, _^_}
 use native.Mathlib.Nat.{zero-add}
 use native.Mathlib.Omega.{arith}
-use Rattle.bitstream.specs.Reading.{Reader, zeroPrefix}
-use Rattle.bitstream.specs.Told.{told, numberOf, gives, outcomeAt}
+use Rattle.answers.specs.Reading.{Reader}
+use Rattle.bitstream.specs.Reading.{zeroPrefix}
+use Rattle.bitstream.specs.Told.{toldRead, gives, outcomeAt}
+use Rattle.answers.specs.Refusals.{numberOf}
 use Rattle.codeword.specs.Codewords.{suffix}
 use Rattle.codeword.specs.declared.Codebook.the-variants.{ExpGolomb}
 use Rattle.codeword.proofs.ReadCodeLaws.{readSuffix-exp}
@@ -26,7 +28,7 @@ enum-known-zeros-2 c = search needs
 -- the zeros that were told
 found : (c : tie.After-known-told2) → let a = c .before .before .before .before .before .args in let g = c .before .zeros2 .given .0 in
     gives (g .0) (g .1 .0 .at) ≡ outcomeAt (zeroPrefix 32) (a .payload .now) (a .c .at)
-found c = ap told (sym (c .before .zeros2 .given .1)) ∙ c .before .before .before .zero-prefix .ensures
+found c = ap toldRead (sym (c .before .zeros2 .given .1)) ∙ c .before .before .before .zero-prefix .ensures
 
 exp-suffix-requires : tie.Need-exp-suffix-requires
 exp-suffix-requires c κs =
@@ -39,7 +41,7 @@ returns c =
     let b = c .before .before .before in
     let a = b .before .before .args in
     let g = c .before .zeros .given in
-    code-stop (ExpGolomb (a .k)) (a .payload .now) (a .c .at) (numberOf (g .0 .0)) (ap told (sym (g .1)) ∙ b .zero-prefix .ensures)
+    code-stop (ExpGolomb (a .k)) (a .payload .now) (a .c .at) (numberOf (g .0 .0)) (ap toldRead (sym (g .1)) ∙ b .zero-prefix .ensures)
 
 returns-2 : tie.Need-returns-2
 returns-2 c =

@@ -2,7 +2,8 @@
 -- Assumes nothing.
 use mathlib.Core.Path.{sym, ap, _∙_}
 use native.Mathlib.Omega.{arith}
-use Rattle.bitstream.specs.Told.{told, numberOf}
+use Rattle.bitstream.specs.Told.{toldRead}
+use Rattle.answers.specs.Refusals.{numberOf}
 use Rattle.codeword.proofs.AnswerLaws.{suffix-stop, suffix-small, suffix-large}
 use borrow.Author.Needs.{needs}
 use Rattle.codeword.proofs.read.read_suffix.Statement.{statement}
@@ -31,21 +32,21 @@ returns c =
     let b = c .before .before .before .before in
     let a = b .before .before .args in
     let g = c .before .before .field2 .given in
-    suffix-small (a .n) (a .base) (a .payload .now) (a .c .at) (g .0 .0) (g .0 .1 .0 .at) (ap told (sym (g .1)) ∙ b .read-bits .ensures) (omega arith)
+    suffix-small (a .n) (a .base) (a .payload .now) (a .c .at) (g .0 .0) (g .0 .1 .0 .at) (ap toldRead (sym (g .1)) ∙ b .read-bits .ensures) (omega arith)
 
 returns-2 : tie.Need-returns-2
 returns-2 c =
     let b = c .before .before .before in
     let a = b .before .before .args in
     let g = c .before .field .given in
-    suffix-stop (a .n) (a .base) (a .payload .now) (a .c .at) (numberOf (g .0 .0)) (ap told (sym (g .1)) ∙ b .read-bits .ensures)
+    suffix-stop (a .n) (a .base) (a .payload .now) (a .c .at) (numberOf (g .0 .0)) (ap toldRead (sym (g .1)) ∙ b .read-bits .ensures)
 
 returns-3 : tie.Need-returns-3
 returns-3 c =
     let b = c .before .before .before .before in
     let a = b .before .before .args in
     let g = c .before .before .field2 .given in
-    suffix-large (a .n) (a .base) (a .payload .now) (a .c .at) (g .0 .0) (g .0 .1 .0 .at) (ap told (sym (g .1)) ∙ b .read-bits .ensures) (omega arith)
+    suffix-large (a .n) (a .base) (a .payload .now) (a .c .at) (g .0 .0) (g .0 .1 .0 .at) (ap toldRead (sym (g .1)) ∙ b .read-bits .ensures) (omega arith)
 
 pub read-suffix-spec : {M : Type 1} → statement M
 read-suffix-spec =

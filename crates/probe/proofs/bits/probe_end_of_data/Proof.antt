@@ -1,8 +1,8 @@
 -- `probe::bits::probe_end_of_data` meets its contract.
 -- Assumes nothing.
 use mathlib.Core.Path.{ap, _∙_}
-use Rattle.numbers.specs.Numbers.{flagOf}
-use Rattle.numbers.proofs.FlagLaws.{flag-byte}
+use Rattle.bitstream.specs.Bits.{val}
+use Rattle.bitstream.proofs.PlaceLaws.{byte-val}
 use borrow.Author.Needs.{needs}
 use Rattle.probe.proofs.bits.probe_end_of_data.Statement.{statement}
 use Rattle.probe.proofs.bits.probe_end_of_data.Tie as tie
@@ -14,7 +14,7 @@ cast-result : tie.Need-cast-result
 cast-result c = search needs
 
 returns : tie.Need-returns
-returns c = flag-byte (c .end-of-data .result) ∙ ap flagOf (c .end-of-data .ensures)
+returns c = byte-val (c .end-of-data .result) ∙ ap val (c .end-of-data .ensures)
 
 pub probe-end-of-data-spec : {M : Type 1} → statement M
 probe-end-of-data-spec = tie.close (tie.spec end-of-data-requires cast-result returns)

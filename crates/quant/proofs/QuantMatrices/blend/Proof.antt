@@ -6,7 +6,7 @@ use mathlib.Core.Logic.{⊎-elim}
 use Prim.Native.Nat.{ℕ}
 use native.Mathlib.Omega.{arith}
 use borrow.Author.Needs.{needs}
-use Rattle.quant.specs.Weights.{Blending, blends, refuses, answered}
+use Rattle.quant.specs.Weights.{Blending, blends, noBlend, answered}
 use Rattle.quant.proofs.BlendLaws.{blend-in, blend-out}
 use Rattle.quant.proofs.QuantMatrices.blend.Statement.{statement}
 use Rattle.quant.proofs.QuantMatrices.blend.Tie as tie
@@ -30,7 +30,7 @@ returns c =
 
 returns-2 : tie.Need-returns-2
 returns-2 c =
-    ap (answered (refuses 13)) (c .flat .ensures)
+    ap (answered (noBlend 13)) (c .flat .ensures)
     ∙ sym (blend-out (λ l h. ⊎-elim (λ w. omega arith) (λ w. omega arith) (c .before .if1 .came)))
 
 pub blend-spec : {M : Type 1} → statement M

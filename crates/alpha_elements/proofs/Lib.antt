@@ -1,0 +1,9 @@
+pub mod KindLaws
+pub mod ValueLaws
+pub mod ElementLaws
+pub mod StepLaws
+pub mod RoundTrip
+pub mod SizeLaws
+pub mod WordLaws
+pub mod ArgumentLaws
+pub mod Unique

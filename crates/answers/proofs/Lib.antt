@@ -1,0 +1,5 @@
+pub mod StepLaws
+pub mod SteppedLaws
+pub mod MachineLaws
+pub mod StandLaws
+pub mod Unique

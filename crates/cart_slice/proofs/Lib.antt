@@ -1,0 +1,2 @@
+pub mod SliceBytesLaws
+pub mod Unique

@@ -1,4 +1,0 @@
-pub mod Shapes
-pub mod Encoding
-pub mod Decoding
-pub mod Told

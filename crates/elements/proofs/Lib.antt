@@ -1,8 +1,0 @@
-pub mod StepLaws
-pub mod RoundTrip
-pub mod SizeLaws
-pub mod RangeLaws
-pub mod ValueLaws
-pub mod ValueExamples
-pub mod AnswerLaws
-pub mod Unique

@@ -1,3 +1,0 @@
-pub mod StepAnswers
-pub mod Standing
-pub mod PairLaws

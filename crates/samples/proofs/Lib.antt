@@ -1,9 +1,0 @@
-pub mod KindLaws
-pub mod ValueLaws
-pub mod ElementLaws
-pub mod StepLaws
-pub mod RoundTrip
-pub mod SizeLaws
-pub mod WordLaws
-pub mod AnswerLaws
-pub mod Unique

@@ -1,3 +1,0 @@
-pub mod CountLaws
-pub mod BytesLaws
-pub mod Unique

@@ -1,2 +1,0 @@
-pub mod SliceBytes
-pub mod Counts

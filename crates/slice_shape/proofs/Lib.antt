@@ -1,0 +1,3 @@
+pub mod ShapeLaws
+pub mod ArgumentLaws
+pub mod Unique

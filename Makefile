@@ -1,28 +1,78 @@
-# Short names for the scripts of this repository, each of which can be run by itself.
-.PHONY: decode prove test more-edits compare compare-long host bench cases lib install help clean
+# Short names for the scripts of this repository, each of which can be run by itself. `make` alone is `make lib`.
+.PHONY: lib install check host decode prove test more-edits compare compare-long bench cases help clean
 .DELETE_ON_ERROR:
+MAKEFLAGS += --no-print-directory
 
-FILE = crates/decode/stdin
+# The recipes take these from the environment, so that a path may have spaces.
+PREFIX ?= /usr/local
+FILE ?= crates/decode/stdin
+# behind the lines above: what is exported counts as set
+export PREFIX DESTDIR FILE
 
-# Proves the sample program, builds it and runs it on FILE: a byte with the number of blocks, and a payload.
+need_rt = command -v rt >/dev/null || { echo $(no_rt) >&2; exit 1; }
+no_rt = 'make: rt, the command of the Rattle kit, is not on the PATH; README.md, "Building and proving", says what is needed'
+
+# The library for C on this machine, its headers and its file for pkg-config, in target/dist.
+lib: target/dist/lib/libcart.a target/dist/include/cart.h target/dist/include/cart_plain.h target/dist/lib/pkgconfig/cart.pc
+	@echo "make: target/dist has libcart.a for $$(uname -m), its headers and cart.pc"
+
+# rt would prove the crate again at each call, which takes half a minute; on x86-64 the archive is that of rt staticlib
+target/native/lib%.a: crates.txt $(shell find crates -name '*.rt' -o -name '*.antt')
+	@$(need_rt)
+	compare/native.sh $*
+
+target/dist/lib/libcart.a: target/native/libcart.a
+	install -D -m 644 $< $@
+
+target/dist/include/%.h: include/%.h
+	install -D -m 644 $< $@
+
+# found from where the file stands, so that target/dist can be used as it is, and moved
+target/dist/lib/pkgconfig/cart.pc: include/cart.pc.in include/cart.h tools/pc.sh
+	mkdir -p $(@D)
+	tools/pc.sh >$@
+
+# The same under PREFIX (/usr/local), for a package below DESTDIR.
+install: lib
+	@set -eu; prefix=$$(realpath -ms -- "$${PREFIX:-/}"); to=$$DESTDIR$$prefix; \
+	pc=$$(tools/pc.sh "$$prefix"); \
+	install -D -m 644 -t "$$to/lib" target/dist/lib/libcart.a; \
+	install -D -m 644 -t "$$to/include" include/cart.h include/cart_plain.h; \
+	printf '%s\n' "$$pc" | install -D -m 644 /dev/stdin "$$to/lib/pkgconfig/cart.pc"; \
+	echo "make: libcart.a, cart.h, cart_plain.h and cart.pc are installed under $$to"
+
+# Tests the library as C sees it: the header, the host programs, the stored cases, and the examples of the documents.
+check: lib target/native/libprobe.a
+	@$(need_rt)
+	tools/install.sh host
+	host/test.sh
+
+# Another name of check.
+host: check
+
+# Proves the sample program, builds it and runs it on FILE (- is standard input): a byte with the number of blocks, and a payload.
 decode:
-	rt check decode
-	tools/run.sh target/bin/decode <$(FILE)
+	@$(need_rt)
+	@tools/decode.sh "$$FILE"
 
 # Proves every crate that changed, and runs the programs.
 prove:
+	@$(need_rt)
 	rt check
 
 # The whole gate.
 test:
+	@$(need_rt)
 	.ci/run
 
 # Wrong programs beside those that the gate tries: the prover must refuse them too.
 more-edits:
+	@$(need_rt)
 	tools/more-edits.sh
 
 # The proved code against the oracle, and nothing else of the gate.
 compare:
+	@$(need_rt)
 	oracle/build.sh
 	compare/native.sh probe
 	compare/native.sh cart
@@ -37,6 +87,7 @@ compare:
 compare-long: SEED = 3
 compare-long: CASES = 20000000
 compare-long:
+	@$(need_rt)
 	oracle/build.sh
 	compare/native.sh probe
 	compare/native.sh cart
@@ -44,45 +95,14 @@ compare-long:
 	target/compare/driver $(SEED) $(CASES) 1
 	target/compare/driver_checked $(SEED) 3000000 7
 
-# The library as C sees it: the host programs, the stored cases, the header, and the examples of the documents.
-host:
-	host/test.sh
-
 # Times, on this machine.
 bench:
+	@$(need_rt)
 	bench/run.sh
 
 # The stored cases and their answers, written anew by the oracle.
 cases:
 	cases/store.sh
-
-# The library for C on x86-64, its header and its file for pkg-config, in target/dist.
-lib: target/dist/lib/libcart.a target/dist/include/cart.h target/dist/lib/pkgconfig/cart.pc
-
-# rt would prove the crate again at each call, which takes half a minute
-target/staticlib/lib%.a: crates.txt $(shell find crates -name '*.rt' -o -name '*.antt')
-	rt staticlib $*
-
-target/dist/lib/libcart.a: target/staticlib/libcart.a
-	install -D -m 644 $< $@
-
-target/dist/include/cart.h: include/cart.h
-	install -D -m 644 $< $@
-
-# found from where the file stands, so that target/dist can be used as it is, and moved
-target/dist/lib/pkgconfig/cart.pc: include/cart.pc.in
-	mkdir -p $(@D)
-	sed 's|@PREFIX@|$${pcfiledir}/../..|' $< >$@
-
-PREFIX = /usr/local
-
-# The same under PREFIX (/usr/local), for a package below DESTDIR.
-install: to = $(DESTDIR)$(abspath $(PREFIX))
-install: lib
-	install -D -m 644 target/dist/lib/libcart.a $(to)/lib/libcart.a
-	install -D -m 644 include/cart.h $(to)/include/cart.h
-	mkdir -p $(to)/lib/pkgconfig
-	sed 's|@PREFIX@|$(abspath $(PREFIX))|' include/cart.pc.in >$(to)/lib/pkgconfig/cart.pc
 
 # Says what each target does.
 help:

@@ -2,6 +2,7 @@
 # bench/build.sh PROGRAM WORDS..: compiles the benchmark as target/bench/PROGRAM, over the crates that it shares with
 # the comparison. WORDS go to rustc, and tell the archives. Both sides are optimised.
 set -eu
+unset CDPATH
 cd "$(dirname "$0")/.."
 program=target/bench/$1
 shift

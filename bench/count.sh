@@ -7,6 +7,7 @@
 # valgrind's callgrind counts what runs within the function `counted`, and writes a file when that is left. So the n-th
 # file is that of the n-th name which the program prints.
 set -eu
+unset CDPATH
 cd "$(dirname "$0")/.."
 [ $# -eq 1 ] || { echo "usage: bench/count.sh PROGRAM" >&2; exit 2; }
 rm -rf "$1.counts" "$1.count"

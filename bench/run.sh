@@ -3,6 +3,7 @@
 # bitstream.rs and over the plain bit layer; then counts instructions, where valgrind is there. Proves and builds all
 # that it needs first. Times are no verdict, so the gate does not run it.
 set -eu
+unset CDPATH
 cd "$(dirname "$0")/.."
 mkdir -p target/bench
 for name in probe cart; do compare/native.sh "$name" >target/bench/log 2>&1 || { cat target/bench/log; exit 1; }; done

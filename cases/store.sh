@@ -3,6 +3,7 @@
 # cases/stored/answers.txt. Writes both; with --check it only compares what it would write with what is stored, and
 # fails on a difference. Needs the given Rust (oracle/build.sh).
 set -eu
+unset CDPATH
 cd "$(dirname "$0")/.."
 case $#:${1:-} in
 0: | 1:--check) ;;

@@ -8,6 +8,7 @@
 #            sample_program  runs the sample program; only release
 #   FORM     release, checked (oracle/build.sh)
 set -eu
+unset CDPATH
 cd "$(dirname "$0")/.."
 
 # The crates of the oracles, and what stands on them.

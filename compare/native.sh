@@ -2,7 +2,7 @@
 # compare/native.sh NAME: proves the library NAME, and writes
 #
 #   target/staticlib/libNAME.a  what ships: for x86-64, by rt staticlib
-#   target/native/libNAME.a     the same LLVM module as code of THIS machine, for a Rust program here to link
+#   target/native/libNAME.a     the same LLVM module as code of THIS machine, for a program here to link; make lib takes it
 #
 # On x86-64 the two are one file. rt compiles for nothing else, but the kit's clang can: elsewhere it
 # compiles the very module that rattle handed it for the archive. Linked in, a comparison runs many times
@@ -10,6 +10,7 @@
 # numbers, slices and `&mut` numbers and arrays, which both machines pass alike; a struct by value they do not.
 set -eu
 [ $# -eq 1 ] || { echo "usage: compare/native.sh NAME" >&2; exit 2; }
+unset CDPATH
 cd "$(dirname "$0")/.."
 name=$1
 archive=lib$name.a

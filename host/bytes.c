@@ -1,13 +1,9 @@
 #include "bytes.h"
 
+#include <errno.h>
 #include <stdio.h>
 #include <stdlib.h>
-
-void fail(const char *why)
-{
-    fprintf(stderr, "%s\n", why);
-    exit(2);
-}
+#include <string.h>
 
 struct bytes read_file(const char *path)
 {
@@ -16,13 +12,11 @@ struct bytes read_file(const char *path)
     FILE *file = fopen(path, "rb");
     for (size_t got = 1; file && got > 0; len += got) {
         if (len == room && !(at = realloc(at, room = room ? 2 * room : 1 << 16)))
-            fail("no memory for a file");
+            fail("%s: no memory for the file", path);
         got = fread(at + len, 1, room - len, file);
     }
-    if (!file || ferror(file)) {
-        perror(path);
-        exit(2);
-    }
+    if (!file || ferror(file))
+        fail("%s: %s", path, strerror(errno));
     fclose(file);
     return (struct bytes){at, len};
 }

@@ -2,6 +2,8 @@
 #ifndef BYTES_H
 #define BYTES_H
 
+#include "program.h"
+
 #include <stddef.h>
 #include <stdint.h>
 
@@ -10,10 +12,7 @@ struct bytes {
     size_t len;
 };
 
-/* Says why, and ends the program with status 2. */
-void fail(const char *why);
-
-/* The whole file, which is kept until the program ends. */
+/* The whole file, which is kept until the program ends; one that cannot be read ends it. */
 struct bytes read_file(const char *path);
 
 #endif

@@ -6,7 +6,8 @@ the indented lines below it, up to the next example or the end of the block, are
 import re
 import shlex
 import subprocess
-import sys
+
+from scripts import Unusable, begin, read_lines, using
 
 EXAMPLE = re.compile(r"( {4,})\$ (look .*)")
 
@@ -26,27 +27,32 @@ def examples(lines):
             indent, command = begins.groups()
 
 
-def main():
-    if len(sys.argv) != 3:
-        sys.exit("usage: host/examples.py DOCUMENT LOOK")
-    with open(sys.argv[1], encoding="utf-8") as document:
-        lines = document.read().splitlines()
+def said(look, words):
+    with using(look):
+        ran = subprocess.run([look, *words], stdout=subprocess.PIPE, stderr=subprocess.STDOUT, check=False)
+    return ran.stdout.decode(errors="replace").splitlines()
+
+
+def run(document, look):
     passed = failed = 0
-    for command, wanted in examples(lines):
-        words = [sys.argv[2]] + shlex.split(command)[1:]
-        said = subprocess.run(words, stdout=subprocess.PIPE, stderr=subprocess.STDOUT, text=True, check=False).stdout.splitlines()
-        if said == wanted:
+    for command, wanted in examples(read_lines(document, bytes.decode)):
+        try:
+            words = shlex.split(command)[1:]
+        except ValueError as why:
+            raise Unusable(f"{document}: $ {command}: {why}") from why
+        came = said(look, words)
+        if came == wanted:
             passed += 1
         else:
             failed += 1
-            print(f"FAILED: {command}\n  must print {wanted}\n  prints     {said}")
+            print(f"FAILED: {command}\n  must print {wanted}\n  prints     {came}")
     # a document whose examples are not found would pass
     if passed + failed == 0:
-        print(f"FAILED: {sys.argv[1]} has no examples")
+        print(f"FAILED: {document} has no examples")
         failed = 1
     print(f"{passed} passed, {failed} failed")
-    sys.exit(failed > 0)
+    return int(failed > 0)
 
 
 if __name__ == "__main__":
-    main()
+    begin(__doc__, run)

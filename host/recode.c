@@ -1,20 +1,27 @@
-/* recode: reads a file of slices (host/pack.py says what that is), decodes each slice and its alpha, encodes what it read, reads
-   that back, and compares. A program to start from: which call comes when, how much room each buffer needs, and what a refusal
-   is answered with.
-
-       recode SLICES [LISTS]
-
-   It prints a line for each slice, one for its alpha, and a summary. LISTS takes what was decoded, one after another: a slice's
-   blocks, then its samples, both little-endian; what was refused takes no place in it. The exit status is 0 where all that was read was
-   written back to the same values, 1 where something was not, and 2 where a file cannot be used. */
-#include "refusals.h"
+/* recode: reads a file of slices, decodes each slice and its alpha, encodes what it read, reads that back, and compares. A program
+   to start from: which call comes when, how much room each buffer needs, what a refusal is answered with, and what is asked of
+   a payload that was read. */
 #include "slices.h"
 
+#include <errno.h>
 #include <inttypes.h>
-#include <stdbool.h>
 #include <stdio.h>
-#include <stdlib.h>
 #include <string.h>
+#include <sys/stat.h>
+
+const char program[] = "recode";
+
+static const char help[] =
+    "usage: recode SLICES [LISTS]\n"
+    "\n"
+    "Reads the slices of the file SLICES (host/pack.py says what that is) and their alpha, writes each anew, reads that\n"
+    "back, and compares. It prints a line for each slice, one for its alpha, and a summary. LISTS, another file, takes what\n"
+    "was decoded, one after another: a slice's blocks, then its samples, both little-endian; what was refused takes no place.\n"
+    "\n"
+    "The exit status is\n"
+    "  0  all is well; zero bytes behind a code are, and so is alpha that comes back with other bytes and the same samples\n"
+    "  1  something was refused, is left behind a code, or came back as something else\n"
+    "  2  the words are wrong, or a file cannot be read or written\n";
 
 /* How one thing went. */
 enum outcome { REFUSED, SAME_BYTES, OTHER_BYTES, WRONG, OUTCOMES };
@@ -25,9 +32,19 @@ static const char *const outcome_names[OUTCOMES] = {
     [WRONG] = "WRONG: what was written back is something else",
 };
 
+/* What a payload has behind its code. The last is a finding: a rewrite would lose it. */
+enum behind { NOTHING, ZERO_BYTES, LEFT_OVER };
+
+static const char *const behind_names[] = {
+    [ZERO_BYTES] = "zero bytes behind",
+    [LEFT_OVER] = "something is left behind",
+};
+
+static unsigned long slices[OUTCOMES], alphas[OUTCOMES], left_over;
+
 /* Lists for the largest slice. Each is there twice: as decoded, and as read back. */
 static uint8_t blocks[CART_SLICE_LEN(CART_MAX_MACROBLOCKS, CART_444)], blocks_back[sizeof blocks];
-static uint8_t codes[CART_SLICE_CODE_LEN(CART_MAX_MACROBLOCKS, CART_444, 29)];
+static uint8_t out[CART_SLICE_CODE_LEN(CART_MAX_MACROBLOCKS, CART_444, 29)];
 
 /* One more than the limit, so that a slice which names too many can be handed on and be refused. */
 static uint16_t samples[CART_MAX_SAMPLES + 1], samples_back[CART_MAX_SAMPLES + 1];
@@ -40,53 +57,77 @@ static size_t least(size_t a, size_t b)
 
 /* The numbers come from a file, so the list that they ask for may be longer than ours. Then ours is handed on, and the call
    refuses the numbers. */
-static size_t blocks_len(const struct slice *s)
+static size_t blocks_len(struct cart_shape shape)
 {
-    return least(CART_SLICE_LEN(s->macroblocks, s->chroma), sizeof blocks);
+    return least(CART_SLICE_LEN(shape.macroblocks, shape.chroma), sizeof blocks);
 }
 
-static bool same(const struct bytes *payload, const uint8_t *code, uint64_t code_len)
+/* One component: as it came, as it was read, and as it was written and read back. */
+struct part {
+    struct bytes payload, code;
+    uint64_t bits, written, back;
+};
+
+static enum behind behind(const struct part *c)
 {
-    return payload->len == code_len && memcmp(payload->at, code, payload->len) == 0;
+    /* to be asked of every payload that was read: does it hold more than the blocks that it was read for? */
+    if (cart_left_over(c->payload.at, c->payload.len, c->bits))
+        return LEFT_OVER;
+    return c->payload.len > c->code.len ? ZERO_BYTES : NOTHING;
 }
 
 /* Encodes the blocks that were read and reads them back. Whoever rewrites a slice should do the same before the card is
    cleared. */
-static enum outcome write_slice_back(const struct slice *s, const uint64_t bits[3])
+static enum outcome write_slice_back(const struct slice *s, struct cart_slice_read read, enum behind found[3])
 {
-    uint64_t y, cb, cr, y_bits, cb_bits, cr_bits, needed, component, back[3];
-    size_t len = blocks_len(s);
-    if (cart_encode_slice(s->macroblocks, s->chroma, s->scan, blocks, len, codes, sizeof codes, &y, &cb, &cr, &y_bits, &cb_bits,
-                          &cr_bits, &needed) != CART_DONE)
+    size_t len = blocks_len(s->shape);
+    struct cart_slice_written written = cart_write_slice(s->shape, blocks, len, out, sizeof out);
+    struct cart_payloads p = s->payloads, codes = cart_slice_codes(out, &written);
+    struct cart_slice_read back = cart_read_slice(s->shape, codes, blocks_back, len);
+    if (written.refusal != CART_DONE || back.refusal != CART_DONE || memcmp(blocks, blocks_back, len) != 0)
         return WRONG;
-    if (y_bits != bits[0] || cb_bits != bits[1] || cr_bits != bits[2])
-        return WRONG;
-    if (cart_decode_slice(s->macroblocks, s->chroma, s->scan, codes, y, codes + y, cb, codes + y + cb, cr, blocks_back, len,
-                          &component, &back[0], &back[1], &back[2]) != CART_DONE)
-        return WRONG;
-    if (memcmp(blocks, blocks_back, len) != 0 || memcmp(bits, back, sizeof back) != 0)
-        return WRONG;
-    return same(&s->y, codes, y) && same(&s->cb, codes + y, cb) && same(&s->cr, codes + y + cb, cr) ? SAME_BYTES : OTHER_BYTES;
+    const struct part parts[3] = {
+        {{p.y, p.y_len}, {codes.y, codes.y_len}, read.y_bits, written.y_bits, back.y_bits},
+        {{p.cb, p.cb_len}, {codes.cb, codes.cb_len}, read.cb_bits, written.cb_bits, back.cb_bits},
+        {{p.cr, p.cr_len}, {codes.cr, codes.cr_len}, read.cr_bits, written.cr_bits, back.cr_bits},
+    };
+    enum outcome outcome = SAME_BYTES;
+    for (size_t i = 0; i < 3; i++) {
+        const struct part *c = &parts[i];
+        if (c->written != c->bits || c->back != c->bits || c->payload.len < c->code.len)
+            return WRONG;
+        found[i] = behind(c);
+        if (found[i] != LEFT_OVER && memcmp(c->payload.at, c->code.at, c->code.len) != 0)
+            return WRONG;
+        if (found[i] != NOTHING)
+            outcome = OTHER_BYTES;
+    }
+    return outcome;
 }
 
 static enum outcome recode_slice(const struct slice *s)
 {
-    uint64_t component, bits[3];
-    uint32_t refusal = cart_decode_slice(s->macroblocks, s->chroma, s->scan, s->y.at, s->y.len, s->cb.at, s->cb.len, s->cr.at,
-                                         s->cr.len, blocks, blocks_len(s), &component, &bits[0], &bits[1], &bits[2]);
-    if (refusal != CART_DONE) {
+    struct cart_slice_read read = cart_read_slice(s->shape, s->payloads, blocks, blocks_len(s->shape));
+    enum behind found[3] = {NOTHING, NOTHING, NOTHING};
+    if (read.refusal != CART_DONE) {
         /* a slice that cannot be read is copied as it is, and never written anew */
-        printf("slice %" PRIu32 ": refused %" PRIu32 " in %s: %s\n", s->id, refusal, component_name(component),
-               refusal_name(refusal));
+        printf("slice %" PRIu32 ": refused %" PRIu32 " in %s: %s\n", s->id, read.refusal, cart_component_name(read.component),
+               cart_refusal_name(read.refusal));
         return REFUSED;
     }
-    enum outcome outcome = write_slice_back(s, bits);
-    printf("slice %" PRIu32 ": Y %" PRIu64 ", Cb %" PRIu64 ", Cr %" PRIu64 " bits: %s\n", s->id, bits[0], bits[1], bits[2],
-           outcome_names[outcome]);
+    enum outcome outcome = write_slice_back(s, read, found);
+    printf("slice %" PRIu32 ": Y %" PRIu64 ", Cb %" PRIu64 ", Cr %" PRIu64 " bits: %s", s->id, read.y_bits, read.cb_bits,
+           read.cr_bits, outcome_names[outcome]);
+    for (size_t i = 0; i < 3; i++)
+        if (found[i] != NOTHING)
+            printf("; %s %s's code", behind_names[found[i]], cart_component_name(CART_Y + i));
+    putchar('\n');
+    left_over += found[0] == LEFT_OVER || found[1] == LEFT_OVER || found[2] == LEFT_OVER;
     return outcome;
 }
 
-/* Another encoder may have written another code of the same samples, so bits are not compared here. */
+/* Another encoder may have written another code of the same samples, so bits are not compared here. Nothing can be left: that
+   is refused. */
 static enum outcome write_alpha_back(const struct slice *s)
 {
     uint64_t bytes, bits, back;
@@ -96,7 +137,7 @@ static enum outcome write_alpha_back(const struct slice *s)
         return WRONG;
     if (memcmp(samples, samples_back, s->samples * sizeof *samples) != 0)
         return WRONG;
-    return same(&s->alpha, alpha_code, bytes) ? SAME_BYTES : OTHER_BYTES;
+    return s->alpha.len == bytes && memcmp(s->alpha.at, alpha_code, bytes) == 0 ? SAME_BYTES : OTHER_BYTES;
 }
 
 static enum outcome recode_alpha(const struct slice *s)
@@ -105,7 +146,7 @@ static enum outcome recode_alpha(const struct slice *s)
     size_t number = least(s->samples, CART_MAX_SAMPLES + 1);
     uint32_t refusal = cart_decode_alpha(s->kind, s->alpha.at, s->alpha.len, samples, number, &bits);
     if (refusal != CART_DONE) {
-        printf("alpha %" PRIu32 ": refused %" PRIu32 ": %s\n", s->id, refusal, refusal_name(refusal));
+        printf("alpha %" PRIu32 ": refused %" PRIu32 ": %s\n", s->id, refusal, cart_refusal_name(refusal));
         return REFUSED;
     }
     enum outcome outcome = write_alpha_back(s);
@@ -113,44 +154,67 @@ static enum outcome recode_alpha(const struct slice *s)
     return outcome;
 }
 
-static void keep(FILE *lists, const void *list, size_t len)
-{
-    if (lists && fwrite(list, 1, len, lists) != len)
-        fail("the lists cannot be written");
-}
-
 static void summarise(const char *what, const unsigned long count[OUTCOMES])
 {
     unsigned long read = count[SAME_BYTES] + count[OTHER_BYTES] + count[WRONG];
-    printf("%s: %lu read, %lu refused; written back: %lu with the same bytes, %lu with other bytes, %lu wrong\n", what, read,
+    printf("%s: %lu read, %lu refused; written back: %lu with the same bytes, %lu with other bytes, %lu wrong", what, read,
            count[REFUSED], count[SAME_BYTES], count[OTHER_BYTES], count[WRONG]);
+}
+
+/* Where the lists are kept, if they are. */
+static const char *lists_path;
+static FILE *lists;
+
+static void lists_failed(void)
+{
+    fail("%s: %s", lists_path, strerror(errno));
+}
+
+/* What is not there yet is no file. */
+static bool same_file(const char *path, const char *other)
+{
+    struct stat a, b;
+    return stat(path, &a) == 0 && stat(other, &b) == 0 && a.st_dev == b.st_dev && a.st_ino == b.st_ino;
+}
+
+static void keep(const void *list, size_t len)
+{
+    if (lists && fwrite(list, 1, len, lists) != len)
+        lists_failed();
+}
+
+static void recode(const struct slice *s)
+{
+    enum outcome outcome = recode_slice(s);
+    slices[outcome]++;
+    if (outcome != REFUSED)
+        keep(blocks, blocks_len(s->shape));
+    if (s->kind == 0)
+        return;
+    outcome = recode_alpha(s);
+    alphas[outcome]++;
+    if (outcome != REFUSED)
+        keep(samples, s->samples * sizeof *samples);
 }
 
 int main(int argc, char **argv)
 {
-    unsigned long slices[OUTCOMES] = {0}, alphas[OUTCOMES] = {0};
+    begin(argc, argv, help);
     if (argc != 2 && argc != 3)
-        fail("usage: recode SLICES [LISTS]");
-    struct bytes rest = slices_open(argv[1]);
-    FILE *lists = argc == 3 ? fopen(argv[2], "wb") : NULL;
-    if (argc == 3 && !lists)
-        fail("the lists cannot be written");
-    struct slice s;
-    while (slices_next(&rest, &s)) {
-        enum outcome outcome = recode_slice(&s);
-        slices[outcome]++;
-        if (outcome != REFUSED)
-            keep(lists, blocks, blocks_len(&s));
-        if (s.kind == 0)
-            continue;
-        outcome = recode_alpha(&s);
-        alphas[outcome]++;
-        if (outcome != REFUSED)
-            keep(lists, samples, s.samples * sizeof *samples);
-    }
+        fail("the words are SLICES [LISTS]; recode --help says more");
+    struct slices rest = slices_open(argv[1]);
+    lists_path = argv[2];
+    if (lists_path && same_file(argv[1], lists_path))
+        fail("%s: the lists would be written over the slices", lists_path);
+    if (lists_path && !(lists = fopen(lists_path, "wb")))
+        lists_failed();
+    for (struct slice s; slices_next(&rest, &s);)
+        recode(&s);
     if (lists && fclose(lists) != 0)
-        fail("the lists cannot be written");
+        lists_failed();
     summarise("slices", slices);
+    printf("; %lu with something left over\n", left_over);
     summarise("alphas", alphas);
-    return slices[WRONG] + alphas[WRONG] > 0;
+    putchar('\n');
+    return finish(slices[REFUSED] + slices[WRONG] + left_over + alphas[REFUSED] + alphas[WRONG] > 0);
 }

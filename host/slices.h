@@ -4,18 +4,28 @@
 
 #include "bytes.h"
 
+#include <cart_plain.h>
 #include <stdbool.h>
 
-/* The numbers are as the file has them: nothing is known of them but that the payloads lie in the file. */
+/* The numbers are as the file has them: nothing is known of them but that the payloads lie in the file, and that
+   a slice without a kind has no alpha. */
 struct slice {
-    uint32_t id, macroblocks, chroma, scan, kind, samples;
-    struct bytes y, cb, cr, alpha;
+    uint32_t id, kind, samples;
+    struct cart_shape shape;
+    struct cart_payloads payloads;
+    struct bytes alpha;
 };
 
-/* The file's slices. */
-struct bytes slices_open(const char *path);
+struct slices {
+    const char *path;
+    struct bytes rest; /* those that were not taken yet */
+};
 
-/* Takes the next slice off `rest`, or gives false where none is left. */
-bool slices_next(struct bytes *rest, struct slice *s);
+/* The file's slices. A file that is none, or that cannot be read, ends the program. */
+struct slices slices_open(const char *path);
+
+/* Takes the next slice, or gives false where none is left. A file that ends within a slice, or has
+   alpha without a kind, ends the program. */
+bool slices_next(struct slices *slices, struct slice *s);
 
 #endif

@@ -1,22 +1,27 @@
 #!/bin/sh
-# host/test.sh: the library as C sees it, over the archive that ships. It tries
+# host/test.sh: the library as C sees it, over the archive of make lib. It tries
 #
-#   the header     under each compiler at hand, as C99 and as C++11
+#   the headers    under each compiler at hand, as C99 and as C++11; their warnings; and cart.h against the code (tools/face)
 #   face           every function of the face at every limit
+#   plain          every function of cart_plain.h
 #   replay         the stored cases, which the oracle answered; and this program itself
 #   recode         the real slices: held to what is known of them, and written back
-#   the documents  the examples of docs/HANDBOOK.md, and the program of README.md
+#   damage         what of damage and of wrong shapes is seen: held to the numbers of docs/HANDBOOK.md
+#   programs       what recode, look and the scripts print and say, and how they end; the same of the Makefile
+#   install        make install, and a program by way of pkg-config
+#   the documents  the examples of docs/HANDBOOK.md and docs/FORMAT.md, and the program of README.md
 #
-# face, replay and recode run a second time with the compiler's checks, where it has them. The real slices are in
-# ../shared/vectors, or where MUONSATREY_VECTORS says. No part needs Rust. A part that cannot run has failed. The
-# last line is 'N passed, M failed', and the exit status is 0 only where M is 0.
+# The programs run again with the compiler's checks. clang and clang++ are tried where they are at hand. The real slices are
+# in ../shared/vectors, or where MUONSATREY_VECTORS says. No part needs Rust. A part that cannot run has failed, and so has one
+# of host/checks.txt that did not run. The last line is 'N passed, M failed', and the exit status is 0 only where M is 0.
 set -u
+unset CDPATH
 cd "$(dirname "$0")/.." || exit 1
 vectors=${MUONSATREY_VECTORS:-../shared/vectors}/real-slices.jsonl
-passed=0 failed=0
+passed=0 failed=0 ran=
 mkdir -p target/host
 
-# Counts a part as one, or as its last line says where that is a count.
+# Counts a part as one, or as its last line says where that is a count. host/checks.txt must say the same.
 part() { # LABEL COMMAND..
     label=$1
     shift
@@ -25,7 +30,13 @@ part() { # LABEL COMMAND..
     status=$?
     cat target/host/out
     count=$(tail -n 1 target/host/out | sed -n 's/^\([0-9][0-9]*\) passed, \([0-9][0-9]*\) failed$/\1 \2/p')
+    known=$(sed -n "s/^${label%%,*}: //p" host/checks.txt) made=one ran="$ran|${label%%,*}|"
+    [ -z "$count" ] || made=$((${count% *} + ${count#* }))
     [ -n "$count" ] || { [ "$status" -eq 0 ] && count='1 0' || count='0 1'; }
+    if [ "$made" != "$known" ]; then
+        echo "host: $label: the checks are $made, and host/checks.txt says ${known:-nothing of it}"
+        count="${count% *} $((${count#* } + 1))"
+    fi
     # a program that fails after it has counted has failed
     [ "$status" -eq 0 ] || [ "${count#* }" -gt 0 ] || count="${count% *} 1"
     passed=$((passed + ${count% *})) failed=$((failed + ${count#* }))
@@ -33,10 +44,9 @@ part() { # LABEL COMMAND..
 }
 
 header() { # COMPILER..
-    set -- "$@" -Wall -Wextra -Wpedantic -Werror -Itarget/dist/include
-    "$@" -c -o target/host/header.o host/header.c || return 1
-    # a compiler of another machine cannot link the library
-    [ "$(uname -m)" = x86_64 ] || return 0
+    set -- "$@" -Wall -Wextra -Wpedantic -Wconversion -Wsign-conversion -Werror -Itarget/dist/include
+    # as a compiler that knows no attributes, too
+    "$@" -U__GNUC__ -c -o target/host/header.o host/header.c || return 1
     "$@" -o target/host/header host/header.c -x none target/dist/lib/libcart.a && target/host/header
 }
 
@@ -47,47 +57,62 @@ replay() { # PROGRAM
 recode() { # PROGRAM
     [ -f "$vectors" ] || { echo "there is no $vectors; name another folder with MUONSATREY_VECTORS"; return 1; }
     host/pack.py "$vectors" target/host/real.slices || return 1
-    "$1" target/host/real.slices target/host/lists >target/host/said || { cat target/host/said; return 1; }
-    host/check.py "$vectors" target/host/said target/host/lists
+    "$1" target/host/real.slices target/host/lists >target/host/said
+    host/check.py "$vectors" target/host/said target/host/lists $?
 }
 
 first() {
     host/build.sh first && said=$(target/host/first) && echo "$said" && grep -qxF "    $said" README.md
 }
 
-# Whether programs can be built and run with the compiler's checks. They are not made for an emulator.
-can_check() {
-    [ "$(uname -m)" = x86_64 ] && echo 'int main(void) { return 0; }' >target/host/empty.c &&
-        ${CC:-cc} -fsanitize=address,undefined -o target/host/empty target/host/empty.c && target/host/empty
+# Fails for each label of host/checks.txt that no part had.
+all_ran() {
+    while IFS=: read -r label _; do
+        case "$ran$label" in
+        *"|$label|"* | *'#'*) continue ;;
+        esac
+        failed=$((failed + 1))
+        echo "host: FAILED: $label: it did not run"
+    done <host/checks.txt
 }
 
 part 'library' make lib
 for compiler in gcc clang; do
     [ $compiler = gcc ] || command -v $compiler >/dev/null || continue
     part "header, $compiler" header $compiler -std=c99
+    part "warnings, $compiler" host/warned.sh $compiler -std=c99
 done
 for compiler in g++ clang++; do
     [ $compiler = g++ ] || command -v $compiler >/dev/null || continue
     part "header, $compiler" header $compiler -std=c++11 -x c++
+    part "warnings, $compiler" host/warned.sh $compiler -std=c++11 -x c++
 done
+part 'header and code' tools/face
+part 'header and code itself' tools/face --self-test
 part 'programs' host/build.sh
 part 'face' target/host/face
+part 'plain' target/host/plain
 part 'replay itself' host/replay/test.sh target/host/replay
 part 'stored cases' replay target/host/replay
 part 'real slices' recode target/host/recode
-if can_check; then
-    # memory that a program keeps until it ends is no fault
-    export ASAN_OPTIONS=detect_leaks=0
-    part 'programs, checked' host/build.sh face_checked recode_checked replay_checked
-    part 'face, checked' target/host/face_checked
-    part 'replay itself, checked' host/replay/test.sh target/host/replay_checked
-    part 'stored cases, checked' replay target/host/replay_checked
-    part 'real slices, checked' recode target/host/recode_checked
-else
-    echo "host: not run with the compiler's checks, which it does not have here"
-fi
+part 'damage' host/damage.sh target/host/damage
+part 'words and statuses' host/programs.py target/host/recode target/host/look
+# memory that a program keeps until it ends is no fault
+export ASAN_OPTIONS=detect_leaks=0
+part 'programs, checked' host/build.sh face_checked plain_checked recode_checked look_checked replay_checked damage_checked
+part 'face, checked' target/host/face_checked
+part 'plain, checked' target/host/plain_checked
+part 'replay itself, checked' host/replay/test.sh target/host/replay_checked
+part 'stored cases, checked' replay target/host/replay_checked
+part 'real slices, checked' recode target/host/recode_checked
+part 'damage, checked' host/damage.sh target/host/damage_checked
+part 'words and statuses, checked' host/programs.py target/host/recode_checked target/host/look_checked
+part 'install' host/install.sh
 part 'examples of the handbook' host/examples.py docs/HANDBOOK.md target/host/look
+part 'examples of the format' host/examples.py docs/FORMAT.md target/host/look
 part 'program of README.md' first
+part 'the Makefile' tools/make-test.sh
+all_ran
 
 echo "$passed passed, $failed failed"
 [ "$failed" -eq 0 ]

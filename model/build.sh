@@ -2,6 +2,7 @@
 # model/build.sh FORM: builds the crate `model` over the plain oracle, which is built too where it is not up to date
 # (oracle/over.sh).
 set -eu
+unset CDPATH
 cd "$(dirname "$0")/.."
 [ $# -eq 1 ] || { echo "usage: model/build.sh release|checked" >&2; exit 2; }
 rlib=target/oracle/$1/liboracle_plain.rlib

@@ -9,6 +9,7 @@
 # Writes target/oracle/FORM/liboracle_KIND.rlib, and nothing that another KIND or FORM uses: the four can be built
 # side by side. Plain rustc: no cargo, no other crate.
 set -eu
+unset CDPATH
 cd "$(dirname "$0")/.."
 rustc=$(tools/rustc.sh)
 

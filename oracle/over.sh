@@ -9,6 +9,7 @@
 #
 # The environment variable OPT names another level of optimising than 3.
 set -eu
+unset CDPATH
 cd "$(dirname "$0")/.."
 rustc=$(tools/rustc.sh)
 [ $# -ge 3 ] || { echo "usage: oracle/over.sh FORM RESULT ROOT [NEED..]" >&2; exit 2; }

@@ -1,7 +1,7 @@
 // The plain bit layer: document 01, section Bits, one bit at a time, and nothing else.
 //
-// The most significant bit of a byte comes first, bytes in order. A coded payload ends with zero bits
-// up to a byte. Data has ended when no 1 bit remains unread. It is written from that section and not
+// Bits go from the high end of each byte, byte by byte; zeros fill what is written up to a byte; nothing
+// but zeros unread is the end of data. It is written from that section and not
 // from the given bitstream.rs; only the names and signatures are those that the given files call.
 //
 // The given coders do not say how many bits they read or wrote, and document 01 reports both numbers.

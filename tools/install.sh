@@ -1,21 +1,24 @@
 #!/bin/sh
-# tools/install.sh: sees to what the comparison and the host programs need beside the Rattle kit: a C
-# compiler, which rustc links with; a rustc that works, as tools/rustc.sh finds it; a C++ compiler, make and
-# pkg-config; and on a machine that is not x86-64 a C compiler for x86-64, since that is what the library is
-# for. What is missing is installed from Debian's packages where this runs as root; else it says what to run,
-# and fails. At the end it says which rustc is taken, or why there is none.
+# tools/install.sh [host]: sees to what the comparison and the host programs need beside the Rattle kit: compilers of C
+# and C++, make, pkg-config and python3; and a rustc that works, as tools/rustc.sh finds it, unless the word is host:
+# the host programs and their tests need none. What is missing is installed from Debian's packages where this runs as
+# root; else it says what to run, and fails. At the end it says which rustc is taken, or why there is none.
 set -eu
 unset CDPATH
 cd "$(dirname "$0")/.."
+case $#:${1:-} in
+0:) rust=yes ;;
+1:host) rust=no ;;
+*) echo "usage: tools/install.sh [host]" >&2; exit 2 ;;
+esac
 
 # The packages that are missing, one a line.
 missing() {
     command -v cc >/dev/null && command -v gcc >/dev/null || printf '%s\n' gcc libc6-dev
-    for tool in g++ make pkg-config; do
+    for tool in g++ make pkg-config python3; do
         command -v $tool >/dev/null || echo $tool
     done
-    [ "$(uname -m)" = x86_64 ] || command -v x86_64-linux-gnu-gcc >/dev/null ||
-        printf '%s\n' gcc-x86-64-linux-gnu libc6-dev-amd64-cross
+    [ $rust = yes ] || return 0
     # without a C compiler no rustc works, whichever is there; and no package makes another of RUSTC
     if command -v cc >/dev/null && [ -z "${RUSTC:-}" ] && ! tools/rustc.sh >/dev/null 2>&1; then
         # Debian 12's own rustc is too old; it has a newer one beside it under this name
@@ -26,7 +29,7 @@ missing() {
 fail() {
     echo "install: $*" >&2
     # which rustc would be taken, or why none
-    tools/rustc.sh >/dev/null
+    [ $rust = no ] || tools/rustc.sh >/dev/null
     exit 1
 }
 
@@ -51,5 +54,5 @@ for _ in 1 2; do
 done
 still=$(missing | tr '\n' ' ')
 [ -z "$still" ] || fail "still missing after the installation: $still"
-rustc=$(tools/rustc.sh)
-echo "install: $outcome, with $rustc"
+[ $rust = no ] || outcome="$outcome, with $(tools/rustc.sh)"
+echo "install: $outcome"

@@ -109,7 +109,7 @@ static void test_every_kind(uint64_t kind)
 
 static void test_limits(void)
 {
-    static const uint64_t no_kind[] = {0, 3, UINT64_C(1) << 32 | 1, UINT64_MAX};
+    static const uint64_t no_kind[] = {0, 3, UINT64_C(1) << 32 | 1, UINT64_MAX}, kinds[] = {CART_ALPHA_8, CART_ALPHA_16};
     about("alpha, limits");
     fill(CART_MAX_SAMPLES + 1, 0);
     memset(payload, 0, sizeof payload);
@@ -117,7 +117,8 @@ static void test_limits(void)
         EXPECT(encode_alpha(no_kind[i], samples, 1, 8).result == CART_SELECTOR);
         EXPECT(decode_alpha(no_kind[i], payload, 1, 1).result == CART_SELECTOR);
     }
-    for (uint64_t kind = CART_ALPHA_8; kind <= CART_ALPHA_16; kind++) {
+    for (size_t i = 0; i < sizeof kinds / sizeof *kinds; i++) {
+        uint64_t kind = kinds[i];
         EXPECT(encode_alpha(kind, samples, CART_MAX_SAMPLES + 1, sizeof code).result == CART_LIMIT);
         EXPECT(decode_alpha(kind, payload, 1, CART_MAX_SAMPLES + 1).result == CART_LIMIT);
         EXPECT(decode_alpha(kind, payload, CART_MAX_PAYLOAD + 1, 1).result == CART_LIMIT);

@@ -38,7 +38,7 @@ static void test_rows(void)
         memset(list, 0, len);
         for (size_t k = 0; k < 3; k++)
             if (rows[i].set[k].value != 0)
-                list_put(list, rows[i].set[k].place, rows[i].set[k].value);
+                cart_put(list, rows[i].set[k].place, rows[i].set[k].value);
         for (uint64_t room = 0; room < rows[i].bytes; room++) {
             struct encoded e = encode(rows[i].blocks, list, len, room);
             EXPECT(e.result == CART_ROOM && e.needed == rows[i].bytes);
@@ -108,9 +108,21 @@ static void test_every_count(void)
             there_and_back(blocks, b);
         }
         for (size_t i = 0; i < len / 4; i++)
-            list_put(list, i, i % 2 ? MOST : -MOST);
+            cart_put(list, i, i % 2 ? MOST : -MOST);
         there_and_back(blocks, 29);
     }
+}
+
+/* As test_longest_codes of slices.c, of one component: more-edits/cart/code_bound.edit. */
+static void test_longest_code(void)
+{
+    about("coefficients, the longest known code");
+    /* an even number of blocks, so that those of each scanned place begin alike */
+    for (size_t i = 0; i < LONGEST / 4; i++)
+        cart_put(list, i, i % 2 ? -MOST : MOST);
+    struct encoded e = encode(CART_MAX_BLOCKS, list, LONGEST, 0);
+    EXPECT(e.result == CART_ROOM && e.needed == 15108);
+    EXPECT(e.needed > 8 * 32 * (2 * 29 + 1) && e.needed <= CART_CODE_LEN(CART_MAX_BLOCKS, 29));
 }
 
 static void test_limits(void)
@@ -164,7 +176,7 @@ static void test_range(void)
     for (size_t i = 0; i < sizeof out / sizeof *out; i++)
         for (size_t k = 0; k < sizeof places / sizeof *places; k++) {
             memset(list, 0, sizeof list);
-            list_put(list, places[k], out[i]);
+            cart_put(list, places[k], out[i]);
             EXPECT(encode(32, list, LONGEST, sizeof code).result == CART_VALUE);
             EXPECT(encode(32, list, LONGEST, 0).result == CART_VALUE);
         }
@@ -187,6 +199,7 @@ void test_coefficients(void)
     test_rows();
     test_refused_payloads();
     test_every_count();
+    test_longest_code();
     test_limits();
     test_lengths();
     test_range();

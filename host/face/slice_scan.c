@@ -14,7 +14,7 @@ static void test_component(struct shape s, const uint8_t *list, size_t per, size
     for (size_t n = 0; n < 64; n++)
         for (size_t m = 0; m < s.macroblocks; m++)
             for (size_t b = 0; b < c; b++) {
-                size_t from = (size_t)list_get(list, n * all + m * c + b) - 1, natural = from % 64;
+                size_t from = (size_t)cart_get(list, n * all + m * c + b) - 1, natural = from % 64;
                 if (scan_of[natural] < 0)
                     scan_of[natural] = (int)n;
                 in_place += from / 64 == m * per + first + b && scan_of[natural] == (int)n;
@@ -31,7 +31,7 @@ void test_slice_scan(struct shape s)
     for (size_t i = 0; i < 64; i++)
         scan_of[i] = -1;
     for (size_t i = 0; i < len / 4; i++)
-        list_put(blocks, i, (int32_t)i + 1);
+        cart_put(blocks, i, (int32_t)i + 1);
     struct encoded e = encode_slice(s, blocks, len, sizeof code);
     memcpy(code, e.code, sizeof code);
     const uint8_t *from = code;

@@ -45,7 +45,7 @@ static void test_shape(struct shape s)
         there_and_back(s, b);
     }
     for (size_t i = 0; i < len / 4; i++)
-        list_put(blocks, i, i % 2 ? MOST : -MOST);
+        cart_put(blocks, i, i % 2 ? MOST : -MOST);
     there_and_back(s, 29);
 
     /* lengths: a byte, a coefficient, a block more or less; coefficients in place of bytes; the other format's */
@@ -56,6 +56,21 @@ static void test_shape(struct shape s)
         EXPECT(encode_slice(s, blocks, wrong[i], 0).result == CART_LENGTH);
         EXPECT(decode_slice(s, none, wrong[i]).result == CART_LENGTH);
     }
+}
+
+/* Every coefficient as far from zero as can be, and the DCs of each component + and - in turn, so that their differences are
+   too. This is more than 8 x blocks x (2b + 1) bytes: crates/slice/must-fail/bytes_bound.edit. */
+static void test_longest_codes(void)
+{
+    const struct shape s = {CART_MAX_MACROBLOCKS, CART_444, CART_PROGRESSIVE};
+    about("slices, the longest known codes");
+    /* each component has 4 blocks of every macroblock, so that the turn of all blocks is that of its own */
+    for (size_t i = 0; i < LONGEST / 4; i++)
+        cart_put(blocks, i, i / 64 % 2 ? -MOST : MOST);
+    struct encoded e = encode_slice(s, blocks, LONGEST, 0);
+    EXPECT(e.result == CART_ROOM && e.needed == 3 * 15108);
+    EXPECT(e.needed > 8 * 96 * (2 * 29 + 1) && e.needed <= CART_SLICE_CODE_LEN(s.macroblocks, s.chroma, 29));
+    there_and_back(s, 29);
 }
 
 static void test_selectors_and_limits(void)
@@ -94,7 +109,7 @@ static void test_range(void)
         for (size_t k = 0; k < sizeof of_macroblock / sizeof *of_macroblock; k++)
             for (size_t macroblock = 0; macroblock < 8; macroblock += 7) {
                 memset(blocks, 0, sizeof blocks);
-                list_put(blocks, 768 * macroblock + of_macroblock[k], out[i]);
+                cart_put(blocks, 768 * macroblock + of_macroblock[k], out[i]);
                 EXPECT(encode_slice(s, blocks, LONGEST, sizeof code).result == CART_VALUE);
                 EXPECT(encode_slice(s, blocks, LONGEST, 0).result == CART_VALUE);
             }
@@ -131,21 +146,23 @@ static void test_refused_payloads(void)
 {
     /* in 4:4:4 every component of a macroblock has 4 blocks */
     const struct shape s = {1, CART_444, 0};
+    static const uint64_t components[3] = {CART_Y, CART_CB, CART_CR};
     static const uint8_t zero[] = {0x82, 0x30};
     const struct bytes good = {zero, sizeof zero};
+    about("slices, payloads that are not refused");
     EXPECT(decode_slice(s, (struct bytes[]){good, good, good}, slice_len(s)).result == CART_DONE);
     for (size_t i = 0; i < sizeof refused / sizeof *refused; i++)
-        for (uint64_t component = CART_Y; component <= CART_CR; component++) {
+        for (size_t at = 0; at < 3; at++) {
             struct bytes p[3] = {good, good, good};
-            about("slices, refused payload %zu in component %d", i, (int)component);
-            p[component - 1] = (struct bytes){refused[i].payload, refused[i].len};
+            about("slices, refused payload %zu in component %zu", i, at);
+            p[at] = (struct bytes){refused[i].payload, refused[i].len};
             struct decoded d = decode_slice(s, p, slice_len(s));
-            EXPECT(d.result == refused[i].refusal && d.component == component);
+            EXPECT(d.result == refused[i].refusal && d.component == components[at]);
             /* bad components after it change nothing: the first one is named */
-            for (uint64_t after = component; after < CART_CR; after++)
+            for (size_t after = at + 1; after < 3; after++)
                 p[after] = (struct bytes){zeros, 5};
             d = decode_slice(s, p, slice_len(s));
-            EXPECT(d.result == refused[i].refusal && d.component == component);
+            EXPECT(d.result == refused[i].refusal && d.component == components[at]);
         }
 }
 
@@ -164,14 +181,41 @@ static void test_long_payloads(void)
     }
 }
 
+/* What each selector means: the blocks that a macroblock has, and where the second scanned coefficient lies. */
+static void test_meanings(void)
+{
+    static const struct {
+        struct shape shape;
+        size_t blocks, second;
+        uint8_t chroma[2]; /* the code of a chroma component that is all zero: 2 blocks, or 4 */
+    } meanings[] = {
+        {{1, CART_422, CART_PROGRESSIVE}, 8, 1, {0x82, 0x00}},
+        {{1, CART_422, CART_INTERLACED}, 8, 8, {0x82, 0x00}},
+        {{1, CART_444, CART_PROGRESSIVE}, 12, 1, {0x82, 0x30}},
+        {{1, CART_444, CART_INTERLACED}, 12, 8, {0x82, 0x30}},
+    };
+    /* 4 blocks: a 1 behind the DCs, which are zero */
+    static const uint8_t y[] = {0x82, 0x3c};
+    for (size_t i = 0; i < sizeof meanings / sizeof *meanings; i++) {
+        const struct bytes c = {meanings[i].chroma, 2};
+        const size_t len = CART_COEFFS_LEN(meanings[i].blocks);
+        about("slices, the meaning of selectors %zu", i);
+        struct decoded d = decode_slice(meanings[i].shape, (struct bytes[]){{y, sizeof y}, c, c}, len);
+        EXPECT(d.result == CART_DONE && cart_get(d.list, meanings[i].second) == 1);
+    }
+}
+
 void test_slices(void)
 {
+    static const uint64_t chromas[] = {CART_422, CART_444}, scans[] = {CART_PROGRESSIVE, CART_INTERLACED};
     for (uint64_t macroblocks = 1; macroblocks <= CART_MAX_MACROBLOCKS; macroblocks++)
-        for (uint64_t chroma = CART_422; chroma <= CART_444; chroma++)
-            for (uint64_t scan = CART_PROGRESSIVE; scan <= CART_INTERLACED; scan++) {
-                test_shape((struct shape){macroblocks, chroma, scan});
-                test_slice_scan((struct shape){macroblocks, chroma, scan});
+        for (size_t f = 0; f < 2; f++)
+            for (size_t n = 0; n < 2; n++) {
+                test_shape((struct shape){macroblocks, chromas[f], scans[n]});
+                test_slice_scan((struct shape){macroblocks, chromas[f], scans[n]});
             }
+    test_meanings();
+    test_longest_codes();
     test_selectors_and_limits();
     test_range();
     test_order();

@@ -17,7 +17,7 @@ void any_coefficients(uint8_t *list, size_t coefficients, unsigned b)
             magnitude = 0;
         else if (choice == 1)
             magnitude = most;
-        list_put(list, i, any_number() % 2 ? (int32_t)magnitude : -(int32_t)magnitude);
+        cart_put(list, i, any_number() % 2 ? (int32_t)magnitude : -(int32_t)magnitude);
     }
 }
 

@@ -5,8 +5,8 @@
 #include "../guarded/calls.h"
 #include "../guarded/expect.h"
 #include "../guarded/met.h"
-#include "../lists.h"
 
+#include <cart_plain.h>
 #include <string.h>
 
 void test_coefficients(void);

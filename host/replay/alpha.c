@@ -33,7 +33,7 @@ bool encodes_alpha(const struct words *w)
         return false;
     int64_t sample = 0;
     for (size_t i = 0; i < len; i++) {
-        sample += list_get(w->list, i);
+        sample += cart_get(w->list, i);
         if (sample < 0 || sample > UINT16_MAX)
             return false;
         samples[i] = (uint16_t)sample;

@@ -35,6 +35,7 @@ static void print_part(const char *label, struct bytes line, size_t from)
            (const char *)line.at + from, len > SHOWN ? " .." : "");
 }
 
+const char program[] = "replay";
 static unsigned long passed, failed;
 
 /* Takes a line of each, and counts whether the case is answered as is stored. */
@@ -62,7 +63,7 @@ static void replay(size_t number, struct bytes *cases, struct bytes *answers)
 int main(int argc, char **argv)
 {
     if (argc != 3)
-        fail("usage: replay CASES ANSWERS");
+        fail("the words are CASES ANSWERS");
     struct bytes cases = read_file(argv[1]), answers = read_file(argv[2]);
     expect_begin();
     /* as the stored answers have it */

@@ -5,8 +5,8 @@
 #include "../guarded/calls.h"
 #include "../guarded/expect.h"
 #include "../guarded/zones.h"
-#include "../lists.h"
 
+#include <cart_plain.h>
 #include <inttypes.h>
 #include <string.h>
 
@@ -22,7 +22,7 @@ struct words {
     uint64_t n[6];
     size_t bytes, used; /* how many bytes HEX has; behind which place of the list none is named */
     uint8_t payload[PAYLOAD_LIMIT];
-    uint8_t list[4 * LIST_LIMIT]; /* as in lists.h */
+    uint8_t list[4 * LIST_LIMIT]; /* as cart_plain.h has it */
 };
 
 /* Reads a line behind its letter; false where it has not this form. */

@@ -57,7 +57,7 @@ bool tell_list(struct decoded d, unsigned payloads, size_t len)
         return tell_refused_list(d, 4 * len);
     tell_numbers(d.bits, payloads);
     for (size_t i = 0; i < len; i++)
-        tell_entry(i, list_get(d.list, i));
+        tell_entry(i, cart_get(d.list, i));
     return true;
 }
 

@@ -61,7 +61,7 @@ static bool take_entries(struct bytes *rest, struct words *w)
             return false;
         if (place < w->used || place >= LIST_LIMIT)
             return false;
-        list_put(w->list, place, (int32_t)(negative ? -(int64_t)magnitude : (int64_t)magnitude));
+        cart_put(w->list, place, (int32_t)(negative ? -(int64_t)magnitude : (int64_t)magnitude));
         w->used = place + 1;
     }
     return true;

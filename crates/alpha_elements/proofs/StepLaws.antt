@@ -7,7 +7,7 @@ use mathlib.Core.Bool.{Bool, true, false, cond, _&&_}
 use mathlib.Core.List.{List, [], _∷_, _++_, append-assoc}
 use lib.Dec.{leb, ltb, eqb}
 use lib.Pow.{pow-pos}
-use lib.IntN.{ℤ, pos, natAbs, _-ℤ_}
+use lib.IntN.{ℤ, pos, negsuc, natAbs, _-ℤ_}
 use lib.ListN.{length, replicate, length-append}
 use borrow.Author.Tests.{le-leb, leb-true, leb-false, le-ltb, lt-ltb, ne-eqb, eqb-true, eqb-false}
 use Rattle.common.proofs.Choices.{cond-yes, cond-no}
@@ -17,13 +17,14 @@ use Rattle.answers.specs.Machine.{moved, stop, refuses, from, rejected, accepte
 use Rattle.bitstream.proofs.ReadLaws.{readField-field, field-readField}
 use Rattle.answers.proofs.StepLaws.{onRead-got, Takes, Shrinks, refuses-takes, stop-takes, moved-takes, cond-takes, onRead-takes}
 use Rattle.answers.proofs.MachineLaws as M
+use Rattle.answers.proofs.EndLaws.{Over, accepted-over, rejected-over, cond-over, from-ends}
 use Rattle.codeword_signs.specs.Signs.{isNegative}
 use Rattle.alpha_elements.specs.declared.AlphaChannelType.{AlphaChannelType}
 use Rattle.alpha_elements.specs.Kinds.{widthOf, smallWidthOf, limitOf}
 use Rattle.alpha_elements.specs.Limits.{runLimit}
 use Rattle.alpha_elements.specs.Values.{residue}
 use Rattle.alpha_elements.specs.Elements.{smallElement, escapedElement, alphaRunElement, runBits, alphaElementBits, differenceElement}
-use Rattle.alpha_elements.specs.Decoding.{AlphaState, difference, alphaRun, StepA, differenceTo, smallTo, differenceStep, alphaRunTo, longTo, shortTo, runStep, alphaStep, alphaFinish}
+use Rattle.alpha_elements.specs.Decoding.{AlphaState, difference, alphaRun, StepA, differenceTo, smallTo, differenceStep, alphaRunTo, longTo, shortTo, runStep, alphaStep, alphaFinish, decodeAlpha}
 use Rattle.alpha_elements.proofs.KindLaws.{pow-small}
 use Rattle.alpha_elements.proofs.ValueLaws.{Previous, signed-is, residue-lt, sample-difference, sample-residue}
 use Rattle.alpha_elements.proofs.ElementLaws.{run-one, run-short, run-long}
@@ -205,3 +206,12 @@ module _ (k : AlphaChannelType) where
 
   pub from-refused : (st : AlphaState) (out : List ℕ) (bs : List Bool) (n : ℕ) → alphaStep k st bs ≡ refuses n → from (alphaStep k) alphaFinish st out bs ≡ rejected n bs
   from-refused = M.from-refused (alphaStep k) alphaFinish (step-takes k)
+
+  finish-over : (st : AlphaState) (out : List ℕ) (bs : List Bool) → Over (alphaFinish st out bs)
+  unfolding alphaFinish
+  finish-over st out bs = cond-over (ltb 7 (length bs)) rejected-over (cond-over (ended bs) accepted-over rejected-over)
+
+  -- a reading never stays under way
+  pub decodeAlpha-ends : (n : ℕ) (bs : List Bool) → Over (decodeAlpha k n bs)
+  unfolding decodeAlpha
+  decodeAlpha-ends n bs = from-ends (alphaStep k) alphaFinish (step-takes k) finish-over (difference n (negsuc 0)) [] bs

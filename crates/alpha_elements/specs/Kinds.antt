@@ -1,4 +1,4 @@
--- The kinds of alpha: document 01, "Alpha", and refusal 13. Each kind carries its field width, small limit and mask with it.
+-- The kinds of alpha: document 01, "Alpha", and refusal 13. What differs between the kinds is a function of the kind.
 use Prim.Native.Nat.{ℕ}
 use mathlib.Core.Bool.{cond}
 use lib.Dec.{eqb}

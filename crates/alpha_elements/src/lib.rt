@@ -8,7 +8,7 @@ pub mod arguments; // the limits, and the test of arguments
 pub mod values; // samples after their differences
 pub mod words; // differences and runs as codewords
 
-// Each kind carries its field width, small limit and mask with it.
+// What differs between the kinds is a function of the kind.
 pub enum AlphaChannelType {
     Eight,
     Sixteen,

@@ -1,4 +1,4 @@
--- What the steps of the code answer, in the terms of Decoding.antt of samples, and what holds between two of them. B is a payload's bits.
+-- What the steps of the code answer, in the terms of Decoding.antt of alpha_elements, and what holds between two of them. B is a payload's bits.
 use Prim.Native.Nat.{ℕ, _+_, _-_, _/_, _≤_, _<_}
 use mathlib.Core.Path.{_≡_}
 use mathlib.Core.Bool.{Bool, cond}

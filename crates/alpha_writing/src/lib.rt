@@ -1,4 +1,4 @@
-// Writing alpha samples: the writing half of alpha.rs. The code's length is counted first; both passes make their words by the same function.
+// Writing alpha samples: the writing half of alpha.rs. Counting and writing are two passes, which make their words by the same function.
 ghost use mathlib.Core.Path.{_≡_};
 ghost use mathlib.Core.Bool.{true, not};
 ghost use Prim.Native.Nat.{_+_, _*_, _≤_, _<_};

@@ -1,17 +1,19 @@
 -- Any two outcomes that a promise allows are equal, whatever the answer and what the lent list or buffer then holds are promised to be.
 -- Assumes nothing.
 use mathlib.Core.Path.{_≡_, refl, sym, ap, _∙_}
-use mathlib.Core.Bool.{cond}
+use mathlib.Core.Bool.{Bool, false, cond}
 use mathlib.Core.List.{List}
 use Prim.Native.Nat.{ℕ}
 use lib.Dec.{eqb}
 use Rattle.answers.specs.Refusals.{numberOf}
-use Rattle.answers.specs.Answers.{ArgumentsAnswer, fit, unfit, DecodeAnswer, read, refuse, Decoding, decoding, Size, EncodeAnswer, wrote, needs, declines, Encoding, encoding}
-use Rattle.answers.specs.Told.{toldArguments, toldDecoded, toldEncoded}
+use Rattle.answers.specs.Answers.{ArgumentsAnswer, fit, unfit, DecodeAnswer, read, refuse, Decoding, decoding, Size, EncodeAnswer, wrote, unwritten, Encoding, encoding}
+use Rattle.answers.specs.Told.{toldArguments, reachedSays, toldDecoded, toldEncoded}
 use Rattle.answers.specs.declared.Refusal.{Refusal}
 use Rattle.answers.specs.declared.Refusal.the-variants.{Limit, Length, Value, Short, Codeword, Overrun, Range, LongRun, AlphaOverrun, Tail, Padding, Selector}
 use Rattle.answers.specs.declared.Arguments.{Arguments}
 use Rattle.answers.specs.declared.Arguments.the-variants.{Taken, Refused as Rejected}
+use Rattle.answers.specs.declared.Reached.{Reached}
+use Rattle.answers.specs.declared.Reached.the-variants.{At, No}
 use Rattle.answers.specs.declared.Decoded.{Decoded}
 use Rattle.answers.specs.declared.Decoded.the-variants.{Done, Refused}
 use Rattle.answers.specs.declared.Encoded.{Encoded}
@@ -45,6 +47,25 @@ refusalOf-number Tail = refl
 refusalOf-number Padding = refl
 refusalOf-number Selector = refl
 
+-- 3 is the answer without room, and no refusal's number
+number-room : (r : Refusal) → eqb (numberOf r) 3 ≡ false
+number-room Limit = refl
+number-room Length = refl
+number-room Value = refl
+number-room Short = refl
+number-room Codeword = refl
+number-room Overrun = refl
+number-room Range = refl
+number-room LongRun = refl
+number-room AlphaOverrun = refl
+number-room Tail = refl
+number-room Padding = refl
+number-room Selector = refl
+
+-- so an encoder's answer A is told from the number
+pub unwritten-back : {A : Type 0} (room : A) (other : Refusal → A) (r : Refusal) → cond (eqb (numberOf r) 3) room (other (refusalOf (numberOf r))) ≡ other r
+unwritten-back room other r = ap (λ (b : Bool). cond b room (other (refusalOf (numberOf r)))) (number-room r) ∙ ap other (refusalOf-number r)
+
 pub number-unique : (w : Refusal) (r r′ : ℕ) → r ≡ numberOf w → r′ ≡ numberOf w → r ≡ r′
 number-unique w r r′ e f = e ∙ sym f
 
@@ -68,14 +89,13 @@ decodedOf-told (Refused why) = ap Refused (refusalOf-number why)
 
 encodedOf : EncodeAnswer Size → Encoded
 encodedOf (wrote s) = Written (s .bytes) (s .bits)
-encodedOf (needs bytes) = Room bytes
-encodedOf (declines k) = NotWritten (refusalOf k)
+encodedOf (unwritten k needed) = cond (eqb k 3) (Room needed) (NotWritten (refusalOf k))
 
 encodedOf-told : (r : Encoded) → encodedOf (toldEncoded r) ≡ r
 unfolding encodedOf
 encodedOf-told (Written bytes bits) = refl
 encodedOf-told (Room bytes) = refl
-encodedOf-told (NotWritten why) = ap NotWritten (refusalOf-number why)
+encodedOf-told (NotWritten why) = unwritten-back (Room 0) NotWritten why
 
 -- ---- the promises: of arguments, of decoding and of encoding
 
@@ -91,3 +111,17 @@ pub encode-unique : (x : Encoding Size) (r r′ : Encoded) (b b′ : List ℕ) �
 encode-unique x r r′ b b′ e f =
     let same : encoding (toldEncoded r) b ≡ encoding (toldEncoded r′) b′ = e ∙ sym f in
     (sym (encodedOf-told r) ∙ ap (λ (y : Encoding Size). encodedOf (y .answer)) same ∙ encodedOf-told r′, ap (λ (y : Encoding Size). y .buffer) same)
+
+-- where a reading stands: the answer is one, and where it is no refusal so is the list
+reachedOf : DecodeAnswer → Reached
+reachedOf (read n) = At n
+reachedOf (refuse k) = No (refusalOf k)
+
+reachedOf-says : {O : Type 0} (z : O) (n : ℕ) (r : Reached) (l : List O) → reachedOf (reachedSays z n r l .answer) ≡ r
+unfolding reachedOf
+reachedOf-says z n (At at) l = refl
+reachedOf-says z n (No why) l = ap No (refusalOf-number why)
+
+pub reached-unique : {O : Type 0} (z : O) (n : ℕ) (x : Decoding O) (r r′ : Reached) (l l′ : List O) → reachedSays z n r l ≡ x → reachedSays z n r′ l′ ≡ x → r ≡ r′
+reached-unique {O} z n x r r′ l l′ e f =
+    sym (reachedOf-says z n r l) ∙ ap (λ (d : Decoding O). reachedOf (d .answer)) (e ∙ sym f) ∙ reachedOf-says z n r′ l′

@@ -1,5 +1,5 @@
--- A reader of elements, whatever the elements are: it steps until no element is due. Document 01, "Refusal numbers": an element is a DC codeword, a
--- run, a level with its sign, an alpha difference or an alpha run, and the first refusal met in bit order stands.
+-- A reader of elements, whatever the elements are: it steps until no element is due. Document 01, "Refusal numbers": each coder says which elements it
+-- has; of several refusals the first in the order of the bits stands.
 use Prim.Native.Nat.{ℕ, zero, suc, _≤_}
 use mathlib.Core.Path.{_≡_}
 use mathlib.Core.Bool.{Bool}

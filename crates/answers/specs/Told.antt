@@ -1,4 +1,4 @@
--- What the answers of the code say, by document 01's numbers ("Refusal numbers"); 3 is the answer without room.
+-- What the answers of the code say, by document 01's numbers ("Refusal numbers").
 use Prim.Native.Nat.{ℕ}
 use mathlib.Core.List.{List}
 use lib.ListN.{replicate}

@@ -1,5 +1,5 @@
--- What bits are. Document 01, "Bits": most significant bit of a byte first, bytes in order; a field's most significant bit comes first;
--- data has ended when no 1 bit remains unread. A bit is a Bool, true for 1.
+-- What bits are: document 01, "Bits". The high bit of a byte or of a field stands in front; data is at its end once only zeros are
+-- unread. A bit is a Bool, true for 1.
 use Prim.Native.Nat.{ℕ, zero, suc, _+_, _*_, _/_, _%_, _^_}
 use mathlib.Core.Bool.{Bool, true, false}
 use mathlib.Core.List.{List, [], _∷_, _++_}

@@ -1,5 +1,5 @@
--- Bits as bytes. Document 01, "Bits": a coded payload ends with zero bits up to a byte. "Refusal numbers": bytes of an output buffer
--- beyond the written code keep their old content.
+-- Bits as bytes: document 01, "Bits" (zeros fill a code up to a byte) and "Refusal numbers" (what stands behind a code in a buffer
+-- stays).
 use Prim.Native.Nat.{ℕ, zero, suc, _+_, _/_}
 use mathlib.Core.Bool.{Bool}
 use mathlib.Core.List.{List, [], _∷_, _++_}

@@ -1,5 +1,5 @@
 // The bit layer: document 01, section Bits, and the limit on a payload. Reading goes by a slice and a Cursor by value, as the Rust's BitReader
-// does by itself; writing is in bitwriter.
+// does by itself; writing is in bitstream_writer.
 ghost use mathlib.Core.Path.{_≡_};
 ghost use Prim.Native.Nat.{_≤_};
 ghost use lib.ListN.{length, drop};

@@ -1,6 +1,6 @@
 -- The slice coder's answers as numbers.
 use Prim.Native.Nat.{ℕ}
-use Rattle.answers.specs.Answers.{EncodeAnswer, wrote, needs, declines, Size}
+use Rattle.answers.specs.Answers.{EncodeAnswer, wrote, unwritten, Size}
 use Rattle.slice_shape.specs.Decoding.{SliceAnswer, readAll, refuseIn}
 use Rattle.slice_shape.specs.declared.Code.{Code}
 use Rattle.cart_numbers.specs.declared.slices.SliceEncodeNumbers.{SliceEncodeNumbers}
@@ -14,12 +14,11 @@ codeNumbers bytes bits = record { bytes = bytes; bits = bits }
 abbrev pub noCodes : ℕ → ℕ → SliceEncodeNumbers
 noCodes k n = record { result = k; y = codeNumbers 0 0; cb = codeNumbers 0 0; cr = codeNumbers 0 0; needed = n }
 
--- the result, each component's bytes and bits, and without room the bytes that are needed
+-- the result, each component's bytes and bits, and of a refusal the bytes that are needed
 abbrev pub encodeSliceNumbers : EncodeAnswer (Components Size) → SliceEncodeNumbers
 encodeSliceNumbers (wrote s) =
     record { result = 0; y = codeNumbers (s .y .bytes) (s .y .bits); cb = codeNumbers (s .cb .bytes) (s .cb .bits); cr = codeNumbers (s .cr .bytes) (s .cr .bits); needed = 0 }
-encodeSliceNumbers (needs n) = noCodes 3 n
-encodeSliceNumbers (declines k) = noCodes k 0
+encodeSliceNumbers (unwritten k needed) = noCodes k needed
 
 -- a refusal and its component
 abbrev pub refusedIn : ℕ → ℕ → SliceDecodeNumbers

@@ -12,17 +12,20 @@ use lib.ListN.{length, take, replicate, length-append}
 use lib.Pow.{pow-mono}
 use Rattle.bitstream.specs.Bits.{field, bitsOf, zeros, ended}
 use Rattle.bitstream.specs.Bytes.{bytesFor, pack, stored}
-use Rattle.answers.specs.Machine.{accepted}
+use Rattle.answers.specs.Machine.{accepted, Rejects}
+use Rattle.answers.proofs.StandLaws.{rejects-settled}
+use Rattle.answers.proofs.EndLaws.{settled-rejects}
 use Rattle.bitstream.specs.Told.{payloadLimit}
 use Rattle.bitstream.proofs.BitsLaws.{bits-append}
 use Rattle.bitstream.proofs.BytesLaws.{bits-pack, length-pack, stored-payload}
 use Rattle.bitstream.proofs.PlaceLaws.{ended-append, ended-zeros}
 use Rattle.entropy_elements.specs.Elements.{size, elementsOf, encode}
 use Rattle.entropy_elements.specs.Limits.{inRange, blockLimit, Encodable}
-use Rattle.entropy_elements.specs.Decoding.{decode, OutC}
-use Rattle.answers.specs.Answers.{decoding, read, settled, Encoding, encoding, wrote, needs, Size}
-use Rattle.entropy_elements.specs.Answers.{decodeOf, encodeOf}
+use Rattle.entropy_elements.specs.Decoding.{nil, decode, OutC}
+use Rattle.answers.specs.Answers.{Decoding, decoding, read, refuse, settled, Encoding, encoding, wrote, needs, Size}
+use Rattle.entropy_elements.specs.Answers.{readingOf, decodeOf, encodeOf}
 use Rattle.entropy_elements.proofs.RoundTrip.{Small, decode-encode}
+use Rattle.entropy_elements.proofs.StepLaws.{decode-ends}
 use Rattle.entropy_elements.proofs.SizeLaws.{Below, encode-length, size-le}
 use Rattle.entropy_elements.proofs.RangeLaws.{inRange-small}
 use Rattle.entropy_elements.proofs.ArgumentLaws.{decodeOf-fits}
@@ -85,10 +88,9 @@ module _ (b w : ℕ) (cs : List ℤ) (g : Given b w cs) where
 
   -- ---- every coefficient comes back
 
-  -- the bytes of the code, alone (k = 0) or followed by k zero bytes up to the limit, give the same coefficients and bit count
-  pub bytes-back : (k : ℕ) (list : List ℤ) → length (pack (encode b cs) ++ replicate k 0) ≤ payloadLimit → length list ≡ 64 * b
-      → decodeOf (pack (encode b cs) ++ replicate k 0) b list ≡ decoding (read (length (encode b cs))) cs
-  bytes-back k list fits len =
+  -- the reading of the code's bytes, alone (k = 0) or followed by k zero bytes
+  pub reading-back : (k : ℕ) → readingOf (pack (encode b cs) ++ replicate k 0) b ≡ decoding (read (length (encode b cs))) cs
+  reading-back k =
       let code : List Bool = encode b cs in
       let payload : List ℕ = pack code ++ replicate k 0 in
       let pad : List Bool = zeros (8 * bytesFor (length code) - length code) in
@@ -98,9 +100,12 @@ module _ (b w : ℕ) (cs : List ℤ) (g : Given b w cs) where
       let over : ended rest ≡ true = ended-append pad (bitsOf (replicate k 0)) ∙ ap₂ (λ (x y : Bool). x && y) (ended-zeros (8 * bytesFor (length code) - length code)) (zero-bytes k) in
       let back : decode b (bitsOf payload) ≡ accepted cs rest = ap (decode b) split ∙ decode-encode b cs rest (g .all) (omega (arith, g .blocks)) small over in
       let count : length (bitsOf payload) - length rest ≡ length code = omega (arith, ap length split ∙ length-append code rest) in
-      decodeOf-fits payload b list (g .blocks) fits len
-      ∙ ap (λ (o : OutC). settled (pos 0) (bitsOf payload) (64 * b) o) back
-      ∙ ap (λ (n : ℕ). decoding (read n) cs) count
+      ap (λ (o : OutC). settled (pos 0) (bitsOf payload) (64 * b) o) back ∙ ap (λ (n : ℕ). decoding (read n) cs) count
+
+  -- those bytes, up to the limit, give the same coefficients and bit count
+  pub bytes-back : (k : ℕ) (list : List ℤ) → length (pack (encode b cs) ++ replicate k 0) ≤ payloadLimit → length list ≡ 64 * b
+      → decodeOf (pack (encode b cs) ++ replicate k 0) b list ≡ decoding (read (length (encode b cs))) cs
+  bytes-back k list fits len = decodeOf-fits (pack (encode b cs) ++ replicate k 0) b list (g .blocks) fits len ∙ reading-back k
 
   -- what encode leaves in a buffer with room, whatever the buffer held and however long it is, decode reads back from its first bytes
   pub encode-decode : (old : List ℕ) (list : List ℤ) → bytesFor (length (encode b cs)) ≤ length old → length list ≡ 64 * b
@@ -111,3 +116,15 @@ module _ (b w : ℕ) (cs : List ℤ) (g : Given b w cs) where
       ap (λ (x : Encoding Size). take (bytesFor (length code)) (x .buffer)) (room-enough old room) ∙ stored-payload old code ∙ sym (append-nil (pack code)) in
       ap (λ (p : List ℕ). decodeOf p b list) first
       ∙ bytes-back 0 list (omega (arith, length-append (pack code) (replicate 0 0), length-pack code, bytes-fit)) len
+
+-- ---- a payload is refused with a number exactly where the reading of its bits is rejected with it, at the first element that cannot be read
+
+pub reading-rejects : (b : ℕ) (payload : List ℕ) (k : ℕ) → readingOf payload b .answer ≡ refuse k → Rejects k (decode b (bitsOf payload))
+reading-rejects b payload k e = settled-rejects (pos 0) (bitsOf payload) (64 * b) k (decode b (bitsOf payload)) (decode-ends b (bitsOf payload)) e
+
+module _ (b : ℕ) (payload : List ℕ) (list : List ℤ) (few : b ≤ blockLimit) (short : length payload ≤ payloadLimit) (full : length list ≡ 64 * b) where
+  pub refused-when : (k : ℕ) → Rejects k (decode b (bitsOf payload)) → decodeOf payload b list ≡ decoding (refuse k) (nil (64 * b))
+  refused-when k r = decodeOf-fits payload b list few short full ∙ sym (rejects-settled (pos 0) (bitsOf payload) (64 * b) k r)
+
+  pub refused-only : (k : ℕ) → decodeOf payload b list .answer ≡ refuse k → Rejects k (decode b (bitsOf payload))
+  refused-only k e = reading-rejects b payload k (sym (ap (λ (d : Decoding ℤ). d .answer) (decodeOf-fits payload b list few short full)) ∙ e)

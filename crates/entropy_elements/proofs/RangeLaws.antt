@@ -14,6 +14,7 @@ use borrow.Author.Tests.{le-leb, leb-true}
 use Rattle.common.proofs.Flags.{found-more, found-all}
 use Rattle.entropy_elements.specs.Limits.{most, inRange}
 use Rattle.entropy_elements.proofs.RoundTrip.{Small}
+use Rattle.entropy_elements.proofs.SizeLaws.{Below}
 
 -- ---- one coefficient after another: w is whether one before i is out of range
 
@@ -45,6 +46,15 @@ unfolding inRange
 natAbs-inRange [] i e = omega arith
 natAbs-inRange (c ∷ cs) zero e = leb-true (natAbs c) most (both (leb (natAbs c) most) (inRange cs) e .0)
 natAbs-inRange (c ∷ cs) (suc i) e = natAbs-inRange cs i (both (leb (natAbs c) most) (inRange cs) e .1)
+
+-- and of all at once: each is below 2^29
+pub small-below : (cs : List ℤ) → inRange cs ≡ true → Small cs × Below 29 cs
+unfolding inRange
+small-below [] e = (tt, tt)
+small-below (c ∷ cs) e =
+    let h : natAbs c ≤ most = leb-true (natAbs c) most (both (leb (natAbs c) most) (inRange cs) e .0) in
+    let r = small-below cs (both (leb (natAbs c) most) (inRange cs) e .1) in
+    ((h, r .0), (omega arith, r .1))
 
 -- and what each says of all
 pub inRange-small : (cs : List ℤ) → Small cs → inRange cs ≡ true

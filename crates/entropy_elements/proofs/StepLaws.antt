@@ -16,6 +16,7 @@ use Rattle.answers.specs.Reading.{Parsed, got}
 use Rattle.answers.specs.Machine.{moved, stop, refuses, from, rejected, accepted, onRead}
 use Rattle.answers.proofs.StepLaws.{Takes, Shrinks, refuses-takes, stop-takes, moved-takes, cond-takes, onRead-takes}
 use Rattle.answers.proofs.MachineLaws as M
+use Rattle.answers.proofs.EndLaws.{Over, accepted-over, from-ends}
 use Rattle.codeword.specs.Codewords.{code, readCode}
 use Rattle.codeword_books.specs.Books.{firstBook, dcBook, runBook, levelBook}
 use Rattle.codeword.specs.Words.{InUse}
@@ -26,7 +27,7 @@ use Rattle.codeword_books.proofs.BookLaws.{firstBook-in-use}
 use Rattle.codeword.proofs.ReadCodeLaws.{read-code, code-read}
 use Rattle.codeword_signs.proofs.SignLaws.{integer-symbol, turned-turned, natAbs-turned, symbol-le}
 use Rattle.entropy_elements.specs.Limits.{most}
-use Rattle.entropy_elements.specs.Decoding.{nil, State, first, next, run, level, StepC, afterDc, dcTo, nextTo, runTo, levelTo, step, leftOf, finish}
+use Rattle.entropy_elements.specs.Decoding.{nil, State, first, next, run, level, StepC, afterDc, dcTo, nextTo, runTo, levelTo, step, leftOf, finish, start, decode}
 
 -- ---- symbols are below 2^32
 
@@ -128,3 +129,8 @@ from-stop = M.from-stop step finish step-takes
 
 pub from-refused : (st : State) (out : List ℤ) (bs : List Bool) (k : ℕ) → step st bs ≡ refuses k → from step finish st out bs ≡ rejected k bs
 from-refused = M.from-refused step finish step-takes
+
+-- a reading never stays under way
+pub decode-ends : (b : ℕ) (bs : List Bool) → Over (decode b bs)
+unfolding decode
+decode-ends b bs = from-ends step finish step-takes (λ st out u. accepted-over) (start b) [] bs

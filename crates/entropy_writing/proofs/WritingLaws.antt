@@ -24,13 +24,12 @@ use Rattle.codeword_books.specs.Books.{firstBook, runBook, levelBook}
 use Rattle.codeword_signs.specs.Signs.{isNegative, symbolOf}
 use Rattle.codeword_books.proofs.BookLaws.{dcBook-in-use, runBook-in-use, levelBook-in-use}
 use Rattle.entropy_elements.specs.Elements.{elementBits, bits, acElements, dcElements, elementsOf, encode}
-use Rattle.entropy_elements.specs.Limits.{most, inRange, Encodable}
+use Rattle.entropy_elements.specs.Limits.{most, Encodable}
 use Rattle.entropy_writing.specs.Writing.{DcFits, firstDcs, dcBits, dcAfter, dcsCode, AcFits, firstAcs, acBits, acAfter, acsCode}
 use Rattle.entropy_writing.specs.declared.WriterDcs.{WriterDcs}
 use Rattle.entropy_writing.specs.declared.WriterAcs.{WriterAcs}
-use Rattle.entropy_elements.proofs.RangeLaws.{natAbs-inRange}
-use Rattle.entropy_elements.proofs.RoundTrip.{Small}
-use Rattle.entropy_elements.proofs.SizeLaws.{Below, encode-length, size-le}
+use Rattle.entropy_elements.proofs.RangeLaws.{natAbs-inRange, small-below}
+use Rattle.entropy_elements.proofs.SizeLaws.{encode-length, size-le}
 
 -- no blocks have no code
 pub encode-none : {b : ℕ} (cs : List ℤ) → b ≡ 0 → encode b cs ≡ []
@@ -38,13 +37,6 @@ unfolding encode elementsOf bits
 encode-none cs e = rw e
 
 -- ---- the length of the code: 63 bits for each coefficient
-
-small-below : (cs : List ℤ) → inRange cs ≡ true → Small cs × Below 29 cs
-small-below cs e = go cs (λ i. natAbs-inRange cs i e)
-  where
-    go : (xs : List ℤ) → ((i : ℕ) → natAbs (getD xs i (pos 0)) ≤ most) → Small xs × Below 29 xs
-    go [] h = (tt, tt)
-    go (x ∷ xs) h = let r = go xs (λ i. h (suc i)) in ((h 0, r .0), (omega (arith, h 0), r .1))
 
 pub encode-le : {b : ℕ} {cs : List ℤ} → Encodable b cs → length (encode b cs) ≤ 4032 * b
 encode-le {b} {cs} f =

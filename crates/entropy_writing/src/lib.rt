@@ -1,4 +1,4 @@
-// Writing scanned coefficients: the writing half of entropy.rs. The code's length is counted first; both passes make their words by the same functions.
+// Writing scanned coefficients: the writing half of entropy.rs. Counting and writing are two passes, which make their words by the same functions.
 ghost use mathlib.Core.Path.{_≡_};
 ghost use mathlib.Core.List.{[], _∷_, _++_};
 ghost use Prim.Native.Nat.{_+_, _-_, _*_, _^_, _≤_, _<_};

@@ -56,7 +56,7 @@ not-same a b = (λ e eq. false≢true (sym (not-true (same a b) e) ∙ ap (same 
     go n true e = absurd (n (same-eq a b e))
     go n false e = refl
 
--- luma is loaded exactly if it is not all fours, chroma exactly if it differs from luma
+-- when each table has to be carried
 pub loads-luma : (m : QuantMatrices) → (loadLuma m ≡ true) ↔ (m .luma ≡ fours → ⊥)
 unfolding loadLuma
 loads-luma m = not-same (m .luma) fours

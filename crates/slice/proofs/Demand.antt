@@ -1,37 +1,36 @@
--- What is demanded of the slice coder above everything, as theorems over the definitions that its two functions are held to: room is refused exactly if
--- the buffer is shorter than the three codes, and every block comes back in its place.
+-- What is demanded of the slice coder above everything, as theorems over the definitions that its two functions are held to: the count of bits, the size
+-- bound, exact room, and that every block comes back in its place.
 -- Assumes nothing.
 use Prim.Native.Nat.{ℕ, zero, suc, _+_, _*_, _^_, _≤_, _<_}
-use native.Mathlib.Nat.{mul-le-mul}
+use native.Mathlib.Nat.{le-trans, mul-le-mul}
 use native.Mathlib.Omega.{arith}
-use mathlib.Core.Path.{_≡_, refl, sym, ap, ap₂, _∙_}
+use mathlib.Core.Path.{_≡_, refl, sym, ap, ap₂, _∙_, subst}
 use mathlib.Core.Bool.{Bool, true, _&&_}
-use mathlib.Core.List.{List, [], _∷_, _++_, append-assoc, append-nil}
+use mathlib.Core.List.{List, [], _∷_, _++_}
 use borrow.Author.Tests.{le-leb}
 use lib.IntN.{ℤ, pos, natAbs}
-use lib.ListN.{length, take, drop, getD, replicate, length-append, length-replicate}
+use lib.ListN.{length, drop, getD}
 use lib.Pow.{pow-pos}
-use lib.Seq.{take-at, drop-at, drop-drop}
-use Rattle.bitstream.specs.Bytes.{bytesFor, pack}
+use Rattle.bitstream.specs.Bytes.{pack}
 use Rattle.bitstream.specs.Told.{payloadLimit}
 use Rattle.bitstream.proofs.BytesLaws.{length-pack}
 use Rattle.entropy_elements.specs.Limits.{inRange}
-use Rattle.entropy_elements.specs.Elements.{encode}
-use Rattle.entropy_elements.specs.Decoding.{nil}
-use Rattle.answers.specs.Answers.{Decoding, decoding, read, Encoding, encoding, wrote, needs, Size}
-use Rattle.entropy_elements.specs.Answers.{readingOf, decodeOf}
+use Rattle.entropy_elements.specs.Elements.{size, elementsOf, encode}
+use Rattle.answers.specs.Answers.{fit, Decoding, decoding, read, Encoding, encoding, wrote, needs, Size}
+use Rattle.entropy_elements.specs.Answers.{readingOf}
 use Rattle.entropy_elements.proofs.SizeLaws.{Below}
 use Rattle.entropy.proofs.Demand as E
-use Rattle.entropy_elements.proofs.ArgumentLaws.{decodeOf-fits}
 use Rattle.slice_scan.specs.Scan.{tab, scannedOf, placedOf}
 use Rattle.slice_scan.proofs.ScanLaws.{length-scanned}
 use Rattle.slice_scan.proofs.RoundTrip.{back-blocks}
 use Rattle.slice_shape.specs.Shapes.{knownChroma, knownScan, isInterlaced, chromaBlocks, blocksPer, inLimit, sliceLength, Components, InSliceLimits, componentLimit}
-use Rattle.slice_shape.specs.Encoding.{scansOf, codesOf, laid, sizesOf, neededFor, writtenSlice, encodeSliceOf}
-use Rattle.slice_shape.specs.Decoding.{readAll, sliceDecoding, joinedSlice, decodeSliceOf}
-use Rattle.slice_shape.proofs.ShapeLaws.{few-of}
+use Rattle.slice_shape.specs.Arguments.{sliceArguments}
+use Rattle.slice_shape.specs.Encoding.{scansOf, laid, sizesOf, neededFor, writtenSlice, encodeSliceOf}
+use Rattle.slice_shape.specs.Decoding.{readAll, SliceDecoding, sliceDecoding, joinedAnswer, joinedSlice, sliceReadingOf, decodeSliceOf}
+use Rattle.slice_shape.proofs.ShapeLaws.{few-of, few-slice}
 use Rattle.slice_shape.proofs.ArgumentLaws.{limits-fit, arguments-taken, encodeSliceOf-fit, decodeSliceOf-fit}
 use Rattle.slice_writing.proofs.WrittenLaws.{writing-in, written-room}
+use Rattle.slice.proofs.PartLaws.{codesIn, lengthsOf, packs, partsOf, none, followed, followed-none, Payloads, noPayloads, none-fit, parts-laid}
 
 -- the blocks of m macroblocks, each coefficient below 2^w
 pub record Given (m f s w : ℕ) (blocks : List ℤ) : Type 0 where
@@ -56,37 +55,10 @@ below-scanned : (w : ℕ) (i : Bool) (m per off c : ℕ) (blocks : List ℤ) →
 unfolding scannedOf
 below-scanned w i m per off c blocks b = tab-below w (64 * (m * c)) _ (λ k. below-at w blocks _ b)
 
--- ---- the three parts of a buffer
-
-module _ {A : Type 0} {p q r : ℕ} (x y z rest : List A) (hx : length x ≡ p) (hy : length y ≡ q) (hz : length z ≡ r) where
-  apart : (x ++ (y ++ z)) ++ rest ≡ x ++ (y ++ (z ++ rest))
-  apart = append-assoc x (y ++ z) rest ∙ ap (λ (l : List A). x ++ l) (append-assoc y z rest)
-
-  first-part : take p ((x ++ (y ++ z)) ++ rest) ≡ x
-  first-part = ap (take p) apart ∙ take-at x (y ++ (z ++ rest)) p hx
-
-  second-part : take q (drop p ((x ++ (y ++ z)) ++ rest)) ≡ y
-  second-part = ap (λ (l : List A). take q (drop p l)) apart ∙ ap (take q) (drop-at x (y ++ (z ++ rest)) p hx) ∙ take-at y (z ++ rest) q hy
-
-  third-part : take r (drop (p + q) ((x ++ (y ++ z)) ++ rest)) ≡ z
-  third-part =
-      ap (λ (l : List A). take r (drop (p + q) l)) apart
-      ∙ ap (take r) (sym (drop-drop q p (x ++ (y ++ (z ++ rest)))) ∙ ap (drop q) (drop-at x (y ++ (z ++ rest)) p hx) ∙ drop-at y (z ++ rest) q hy)
-      ∙ take-at z rest r hz
-
--- ---- a component comes back
+-- ---- the three components
 
 packed-fits : {b w : ℕ} {cs : List ℤ} → E.Given b w cs → length (pack (encode b cs)) ≤ payloadLimit
 packed-fits {b} {w} {cs} g = omega (arith, length-pack (encode b cs), E.bytes-fit b w cs g)
-
-component-back : (b w : ℕ) (cs : List ℤ) → E.Given b w cs → readingOf (pack (encode b cs)) b ≡ decoding (read (length (encode b cs))) cs
-component-back b w cs g =
-    let p : List ℕ = pack (encode b cs) in
-    let z : List ℤ = nil (64 * b) in
-    let long : length z ≡ 64 * b = length-replicate (64 * b) (pos 0) in
-    sym (decodeOf-fits p b z (g .blocks) (packed-fits g) long)
-    ∙ ap (λ (q : List ℕ). decodeOf q b z) (sym (append-nil p))
-    ∙ E.bytes-back b w cs g 0 z (omega (arith, length-append p (replicate 0 0), packed-fits g)) long
 
 -- three components that were read
 joined-all : (i : Bool) (m c ny nb nr : ℕ) (ys cbs crs : List ℤ)
@@ -103,11 +75,19 @@ module _ (m f s w : ℕ) (blocks : List ℤ) (g : Given m f s w blocks) where
   abbrev c : ℕ
   c = chromaBlocks f
 
+  abbrev lists : Components (List ℤ)
+  lists = scansOf (isInterlaced s) m c blocks
+
   abbrev codes : Components (List Bool)
-  codes = codesOf m c (scansOf (isInterlaced s) m c blocks)
+  codes = codesIn m f s blocks
 
   few : InSliceLimits m c
   few = few-of f (g .limit) refl
+
+  -- with payloads that fit, the arguments are taken, where there are `each` values for a coefficient
+  pub taken : (each : ℕ) (p : Components (List ℕ)) → Payloads p → {n : ℕ} → n ≡ each * sliceLength m c
+      → sliceArguments each (length (p .y)) (length (p .cb)) (length (p .cr)) m f s n ≡ fit
+  taken each p fits {n} e = arguments-taken each _ _ _ m f s n (g .known) (limits-fit m (g .limit) (fits .fits-y) (fits .fits-cb) (fits .fits-cr)) refl e
 
   -- the list of the component whose n blocks of each macroblock start at off
   part : (off n : ℕ) → n ≤ 4 → E.Given (m * n) w (scannedOf (isInterlaced s) m (blocksPer c) off n blocks)
@@ -118,62 +98,90 @@ module _ (m f s w : ℕ) (blocks : List ℤ) (g : Given m f s w blocks) where
     below = below-scanned w (isInterlaced s) m (blocksPer c) off n blocks (g .below);
   }
 
-  -- ---- room: it is refused exactly if the buffer is shorter than the three codes, whose bytes are reported; the buffer is untouched
+  part-y : E.Given (m * 4) w (lists .y)
+  part-y = part 0 4 (omega arith)
+
+  part-cb : E.Given (m * c) w (lists .cb)
+  part-cb = part 4 c (few .few-c)
+
+  part-cr : E.Given (m * c) w (lists .cr)
+  part-cr = part (4 + c) c (few .few-c)
+
+  -- ---- size
+
+  -- each component's bits are the sum of its codeword lengths and sign bits
+  pub bits-sum : (length (codes .y) ≡ size (elementsOf (m * 4) (lists .y))) × (length (codes .cb) ≡ size (elementsOf (m * c) (lists .cb)))
+      × (length (codes .cr) ≡ size (elementsOf (m * c) (lists .cr)))
+  bits-sum = (E.bits-sum _ w _ part-y, E.bits-sum _ w _ part-cb, E.bits-sum _ w _ part-cr)
+
+  -- the three codes are together at most 8 x all blocks x (2w + 5) bytes
+  pub bytes-le : neededFor (sizesOf codes) ≤ 8 * (m * blocksPer c) * (2 * w + 5)
+  bytes-le = omega (arith, E.bytes-le _ w _ part-y, E.bytes-le _ w _ part-cb, E.bytes-le _ w _ part-cr)
+
+  -- and so at most 48,384, what that is for 96 blocks and w = 29
+  pub bytes-most : neededFor (sizesOf codes) ≤ 48384
+  bytes-most =
+      let most : 8 * (m * blocksPer c) * (2 * w + 5) ≤ 8 * 96 * (2 * 29 + 5) =
+      mul-le-mul {n₁ = 8 * (m * blocksPer c)} {m₁ = 2 * w + 5} {n₂ = 8 * 96} {m₂ = 2 * 29 + 5} (omega (arith, few-slice few)) (omega (arith, g .width)) in
+      le-trans bytes-le most
+
+  -- each is a payload that decoding takes
+  pub bytes-fit : Payloads (packs codes)
+  bytes-fit = record { fits-y = packed-fits part-y; fits-cb = packed-fits part-cb; fits-cr = packed-fits part-cr }
+
+  -- ---- room: it is refused exactly if the buffer is shorter than the three codes
 
   small : inRange blocks ≡ true
   small = E.below-inRange w blocks (g .width) (g .below)
 
   -- the arguments are taken, and the coefficients are in range
   written : (old : List ℕ) → encodeSliceOf blocks m f s old ≡ writtenSlice codes old
-  written old =
-      let n : length blocks ≡ 1 * sliceLength m c = omega (arith, g .all) in
-      let limits = limits-fit m {y = 0} {cb = 0} {cr = 0} (g .limit) (omega arith) (omega arith) (omega arith) in
-      encodeSliceOf-fit blocks m f s old (arguments-taken 1 0 0 0 m f s (length blocks) (g .known) limits refl n) ∙ writing-in blocks m f s old refl small
+  written old = encodeSliceOf-fit blocks m f s old (taken 1 noPayloads none-fit (omega (arith, g .all))) ∙ writing-in blocks m f s old refl small
 
+  -- without it, the bytes that are needed are reported, and the buffer is untouched
   pub room-none : (old : List ℕ) → length old < neededFor (sizesOf codes) → encodeSliceOf blocks m f s old ≡ encoding (needs (neededFor (sizesOf codes))) old
   room-none old h = written old ∙ sym (written-room codes old refl refl refl h)
 
+  -- with it, each code's bytes and bits are reported; the buffer begins with the codes, one after another, and beyond them it is as it was
   pub room-enough : (old : List ℕ) → neededFor (sizesOf codes) ≤ length old
       → encodeSliceOf blocks m f s old ≡ encoding (wrote (sizesOf codes)) (laid codes ++ drop (neededFor (sizesOf codes)) old)
   room-enough old h = written old ∙ written-fits codes old h
 
   -- ---- every block comes back in its place
 
-  -- the packed codes decode to the blocks
-  packed-back : (list : List ℤ) → length list ≡ sliceLength m c
-      → decodeSliceOf (pack (codes .y)) (pack (codes .cb)) (pack (codes .cr)) m f s list
-      ≡ sliceDecoding (readAll (record { y = length (codes .y); cb = length (codes .cb); cr = length (codes .cr) })) blocks
-  packed-back list len =
+  -- the reading of each component's bytes, alone (k is 0) or followed by k zero bytes
+  pub reading-back : (k : Components ℕ) → let p = followed (packs codes) k in sliceReadingOf (p .y) (p .cb) (p .cr) m f s ≡ sliceDecoding (readAll (lengthsOf codes)) blocks
+  reading-back k =
       let i : Bool = isInterlaced s in
-      let Y = part 0 4 (omega arith) in
-      let Cb = part 4 c (few .few-c) in
-      let Cr = part (4 + c) c (few .few-c) in
-      let n : length list ≡ 1 * sliceLength m c = omega (arith, len) in
-      let limits = limits-fit m (g .limit) (packed-fits Y) (packed-fits Cb) (packed-fits Cr) in
-      decodeSliceOf-fit _ _ _ m f s list (arguments-taken 1 _ _ _ m f s (length list) (g .known) limits refl n)
-      ∙ ap (λ (x : Decoding ℤ). joinedSlice i m c x (readingOf (pack (codes .cb)) (m * c)) (readingOf (pack (codes .cr)) (m * c))) (component-back _ w _ Y)
-      ∙ ap₂ (λ (x y : Decoding ℤ). joinedSlice i m c (decoding (read (length (codes .y))) (scannedOf i m (blocksPer c) 0 4 blocks)) x y) (component-back _ w _ Cb) (component-back _ w _ Cr)
+      let p : Components (List ℕ) = followed (packs codes) k in
+      ap (λ (x : Decoding ℤ). joinedSlice i m c x (readingOf (p .cb) (m * c)) (readingOf (p .cr) (m * c))) (E.reading-back _ w _ part-y (k .y))
+      ∙ ap₂ (λ (x y : Decoding ℤ). joinedSlice i m c (decoding (read (length (codes .y))) (lists .y)) x y) (E.reading-back _ w _ part-cb (k .cb)) (E.reading-back _ w _ part-cr (k .cr))
       ∙ joined-all i m c (length (codes .y)) (length (codes .cb)) (length (codes .cr)) _ _ _
       ∙ ap (sliceDecoding _) (back-blocks i m c blocks (g .all))
 
-  -- what encode leaves in a buffer with room, whatever the buffer held and however long it is, decode reads back from its three parts
+  -- those bytes, up to the limit each, give together the same blocks and bit counts
+  pub bytes-back : (k : Components ℕ) (list : List ℤ) → let p = followed (packs codes) k in Payloads p → length list ≡ sliceLength m c
+      → decodeSliceOf (p .y) (p .cb) (p .cr) m f s list ≡ sliceDecoding (readAll (lengthsOf codes)) blocks
+  bytes-back k list fits len = let p : Components (List ℕ) = followed (packs codes) k in decodeSliceOf-fit (p .y) (p .cb) (p .cr) m f s list (taken 1 p fits (omega arith)) ∙ reading-back k
+
+  -- the parts of a buffer with room hold the codes' bytes, whatever the buffer held and however long it is
+  pub parts-codes : (old : List ℕ) → neededFor (sizesOf codes) ≤ length old → partsOf (sizesOf codes) (encodeSliceOf blocks m f s old .buffer) ≡ packs codes
+  parts-codes old room =
+      ap (λ (e : Encoding (Components Size)). partsOf (sizesOf codes) (e .buffer)) (room-enough old room) ∙ parts-laid codes (drop (neededFor (sizesOf codes)) old)
+
+  -- and decode reads them back
   pub encode-decode : (old : List ℕ) (list : List ℤ) → neededFor (sizesOf codes) ≤ length old → length list ≡ sliceLength m c
-      → let buf = encodeSliceOf blocks m f s old .buffer in
-      let y = bytesFor (length (codes .y)) in
-      let cb = bytesFor (length (codes .cb)) in
-      decodeSliceOf (take y buf) (take cb (drop y buf)) (take (bytesFor (length (codes .cr))) (drop (y + cb) buf)) m f s list
-      ≡ sliceDecoding (readAll (record { y = length (codes .y); cb = length (codes .cb); cr = length (codes .cr) })) blocks
+      → let p = partsOf (sizesOf codes) (encodeSliceOf blocks m f s old .buffer) in
+      decodeSliceOf (p .y) (p .cb) (p .cr) m f s list ≡ sliceDecoding (readAll (lengthsOf codes)) blocks
   encode-decode old list room len =
-      let y : List ℕ = pack (codes .y) in
-      let cb : List ℕ = pack (codes .cb) in
-      let cr : List ℕ = pack (codes .cr) in
-      let rest : List ℕ = drop (neededFor (sizesOf codes)) old in
-      let hy = length-pack (codes .y) in
-      let hb = length-pack (codes .cb) in
-      let hr = length-pack (codes .cr) in
-      ap (λ (e : Encoding (Components Size)). let ny = bytesFor (length (codes .y)) in let nb = bytesFor (length (codes .cb)) in
-      decodeSliceOf (take ny (e .buffer)) (take nb (drop ny (e .buffer))) (take (bytesFor (length (codes .cr))) (drop (ny + nb) (e .buffer))) m f s list) (room-enough old room)
-      ∙ ap₂ (λ (p q : List ℕ). decodeSliceOf p q (take (bytesFor (length (codes .cr))) (drop (bytesFor (length (codes .y)) + bytesFor (length (codes .cb))) (laid codes ++ rest))) m f s list)
-      (first-part y cb cr rest hy hb hr) (second-part y cb cr rest hy hb hr)
-      ∙ ap (λ (r : List ℕ). decodeSliceOf y cb r m f s list) (third-part y cb cr rest hy hb hr)
-      ∙ packed-back list len
+      ap (λ (p : Components (List ℕ)). decodeSliceOf (p .y) (p .cb) (p .cr) m f s list) (parts-codes old room ∙ sym (followed-none (packs codes)))
+      ∙ bytes-back none list (subst Payloads (sym (followed-none (packs codes))) bytes-fit) len
+
+-- ---- a slice is answered by its components: where one is refused, the first that is, with the number of its own reading. So E.reading-rejects says of each
+-- exactly when.
+
+pub answer-joined : (y cb cr : List ℕ) (m f s : ℕ) (list : List ℤ) → sliceArguments 1 (length y) (length cb) (length cr) m f s (length list) ≡ fit
+    → let c = chromaBlocks f in
+    decodeSliceOf y cb cr m f s list .answer ≡ joinedAnswer (readingOf y (m * 4) .answer) (readingOf cb (m * c) .answer) (readingOf cr (m * c) .answer)
+unfolding joinedSlice
+answer-joined y cb cr m f s list e = ap (λ (d : SliceDecoding). d .answer) (decodeSliceOf-fit y cb cr m f s list e)

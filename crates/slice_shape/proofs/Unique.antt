@@ -7,8 +7,8 @@ use mathlib.Core.Bool.{cond}
 use mathlib.Core.List.{List}
 use lib.Dec.{eqb}
 use lib.IntN.{ℤ}
-use Rattle.answers.specs.Answers.{Size, EncodeAnswer, wrote, needs, declines, Encoding, encoding}
-use Rattle.answers.proofs.Unique.{refusalOf, refusalOf-number}
+use Rattle.answers.specs.Answers.{Size, EncodeAnswer, wrote, unwritten, Encoding, encoding}
+use Rattle.answers.proofs.Unique.{refusalOf, refusalOf-number, unwritten-back}
 use Rattle.slice_shape.specs.Shapes.{BlocksAnswer, counts, unknown, Components}
 use Rattle.slice_shape.specs.Decoding.{SliceAnswer, readAll, refuseIn, SliceDecoding, sliceDecoding}
 use Rattle.slice_shape.specs.Told.{toldBlocks, toldEncodedSlice, toldDecodedSlice}
@@ -36,14 +36,13 @@ codeOf s = record { bytes = s .bytes; bits = s .bits }
 
 encodedOf : EncodeAnswer (Components Size) → EncodedSlice
 encodedOf (wrote s) = Done (codeOf (s .y)) (codeOf (s .cb)) (codeOf (s .cr))
-encodedOf (needs bytes) = Room bytes
-encodedOf (declines k) = Refused (refusalOf k)
+encodedOf (unwritten k needed) = cond (eqb k 3) (Room needed) (Refused (refusalOf k))
 
 encodedOf-told : (r : EncodedSlice) → encodedOf (toldEncodedSlice r) ≡ r
 unfolding encodedOf codeOf
 encodedOf-told (Done y cb cr) = refl
 encodedOf-told (Room bytes) = refl
-encodedOf-told (Refused r) = ap Refused (refusalOf-number r)
+encodedOf-told (Refused r) = unwritten-back (Room 0) Refused r
 
 pub decodedOf : SliceAnswer → DecodedSlice
 decodedOf (readAll n) = Read (n .y) (n .cb) (n .cr)

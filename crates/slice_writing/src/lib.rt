@@ -1,4 +1,4 @@
-// One list of blocks into three codes: test the range, scan, count, test the room, write.
+// One list of blocks into three codes: test the range, scan, see to the room (by counting, where the buffer may be too short), write.
 ghost use mathlib.Core.Path.{_≡_};
 ghost use Prim.Native.Nat.{_+_, _*_, _≤_};
 ghost use lib.ListN.{length, take};

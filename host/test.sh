@@ -89,24 +89,19 @@ for compiler in g++ clang++; do
 done
 part 'header and code' tools/face
 part 'header and code itself' tools/face --self-test
-part 'programs' host/build.sh
-part 'face' target/host/face
-part 'plain' target/host/plain
-part 'replay itself' host/replay/test.sh target/host/replay
-part 'stored cases' replay target/host/replay
-part 'real slices' recode target/host/recode
-part 'damage' host/damage.sh target/host/damage
-part 'words and statuses' host/programs.py target/host/recode target/host/look
-# memory that a program keeps until it ends is no fault
+# Each program as it is, and then with the compiler's checks; memory that it keeps until it ends is no fault.
 export ASAN_OPTIONS=detect_leaks=0
-part 'programs, checked' host/build.sh face_checked plain_checked recode_checked look_checked replay_checked damage_checked
-part 'face, checked' target/host/face_checked
-part 'plain, checked' target/host/plain_checked
-part 'replay itself, checked' host/replay/test.sh target/host/replay_checked
-part 'stored cases, checked' replay target/host/replay_checked
-part 'real slices, checked' recode target/host/recode_checked
-part 'damage, checked' host/damage.sh target/host/damage_checked
-part 'words and statuses, checked' host/programs.py target/host/recode_checked target/host/look_checked
+for form in '' _checked; do
+    as=${form:+, checked}
+    part "programs$as" host/build.sh "recode$form" "look$form" "face$form" "plain$form" "replay$form" "damage$form"
+    part "face$as" "target/host/face$form"
+    part "plain$as" "target/host/plain$form"
+    part "replay itself$as" host/replay/test.sh "target/host/replay$form"
+    part "stored cases$as" replay "target/host/replay$form"
+    part "real slices$as" recode "target/host/recode$form"
+    part "damage$as" host/damage.sh "target/host/damage$form"
+    part "words and statuses$as" host/programs.py "target/host/recode$form" "target/host/look$form"
+done
 part 'install' host/install.sh
 part 'examples of the handbook' host/examples.py docs/HANDBOOK.md target/host/look
 part 'examples of the format' host/examples.py docs/FORMAT.md target/host/look

@@ -10,14 +10,14 @@ pub mod values; // samples after their differences
 pub mod words; // differences and runs as codewords
 
 // What differs between the kinds is a function of the kind.
-#[derive(Drop)]
+#[derive(Clone, Copy)]
 pub enum AlphaChannelType {
     Eight,
     Sixteen,
 }
 
 // How a code number is answered.
-#[derive(Drop)]
+#[derive(Clone, Copy)]
 pub enum Kind {
     Known(AlphaChannelType),
     Refused(Refusal),

@@ -14,7 +14,7 @@ use answers::{Reached, Refusal};
 use bitstream::{Cursor, Read};
 
 // A sample, and the bit behind its difference.
-#[derive(Drop)]
+#[derive(Clone, Copy)]
 enum SampleStep {
     To(u32, usize),
     No(Refusal),
@@ -67,7 +67,7 @@ fn difference_step(payload: &[u8], kind: AlphaChannelType, prev: u32, at: usize)
 }
 
 // A run, and the bit behind it.
-#[derive(Drop)]
+#[derive(Clone, Copy)]
 enum AlphaRunStep {
     To(usize, usize),
     No(Refusal),
@@ -133,14 +133,14 @@ fn run_step(payload: &[u8], left: usize, at: usize) -> AlphaRunStep
 }
 
 // What the next difference looks back at: where it begins, its place in the list, and one more than the previous value.
-#[derive(Drop)]
+#[derive(Clone, Copy)]
 struct Alphas {
     at: usize,
     place: usize,
     prev: u32,
 }
 
-#[derive(Drop)]
+#[derive(Clone, Copy)]
 enum PairStep {
     To(u16, Alphas),
     No(Refusal),

@@ -33,7 +33,7 @@ pub fn out_of_range(samples: &[u16], kind: AlphaChannelType) -> bool
 // ---- a pair
 
 // A difference and its run: the word to write, the samples that it takes, and what is carried then.
-#[derive(Drop)]
+#[derive(Clone, Copy)]
 struct Pair {
     len: u32,
     bits: u64,

@@ -5,7 +5,7 @@ ghost use Rattle.answers.specs.Refusals.{number_of};
 
 // Why a call is refused: document 01's table, its number beside each. Every layer hands these up as they are. (3, no room, reports the needed
 // bytes as well, so the encoders have a case of their own for it.)
-#[derive(Drop)]
+#[derive(Clone, Copy)]
 pub enum Refusal {
     Limit, // 1: a count or a payload's length is outside the limits
     Length, // 2: a coefficient list is not exactly 64 x its blocks
@@ -43,28 +43,28 @@ impl Refusal {
 }
 
 // How the arguments of a call are answered, before anything is read or written.
-#[derive(Drop)]
+#[derive(Clone, Copy)]
 pub enum Arguments {
     Taken,
     Refused(Refusal),
 }
 
 // Where a reading of many elements stands: behind a bit, or refused.
-#[derive(Drop)]
+#[derive(Clone, Copy)]
 pub enum Reached {
     At(usize),
     No(Refusal),
 }
 
 // How decoding a list of coefficients or of samples is answered.
-#[derive(Drop)]
+#[derive(Clone, Copy)]
 pub enum Decoded {
     Done { bits: usize },
     Refused(Refusal),
 }
 
 // The same of encoding.
-#[derive(Drop)]
+#[derive(Clone, Copy)]
 pub enum Encoded {
     Done { bytes: usize, bits: usize },
     Room { needed: usize }, // refusal 3

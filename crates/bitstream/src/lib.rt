@@ -14,12 +14,12 @@ pub mod windows; // eight bytes at once
 pub const PAYLOAD_LIMIT: usize = 65536;
 
 // A bit position in a payload.
-#[derive(Drop)]
+#[derive(Clone, Copy)]
 pub struct Cursor {
     pub at: usize,
 }
 
-#[derive(Drop)]
+#[derive(Clone, Copy)]
 pub enum Read {
     Value { value: u32, next: Cursor },
     No(Refusal),

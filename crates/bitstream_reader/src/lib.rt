@@ -64,7 +64,7 @@ impl<'a> BitReader<'a> {
 }
 
 // The answers of two reads, each with the bit after it.
-#[derive(Drop)]
+#[derive(Clone, Copy)]
 pub struct Fields {
     pub first: Read,
     pub second: Read,

@@ -7,7 +7,7 @@ mod bytes; // whole bytes into a buffer
 pub mod words; // a field longer than one put takes
 
 // A field as a value: the len low bits of bits.
-#[derive(Drop)]
+#[derive(Clone, Copy)]
 pub struct Word {
     pub len: u32,
     pub bits: u64,

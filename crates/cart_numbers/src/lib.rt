@@ -7,7 +7,7 @@ use answers::{Decoded, Encoded};
 
 pub mod slices; // the slice coder's answers
 
-#[derive(Drop)]
+#[derive(Clone, Copy)]
 pub struct DecodeNumbers {
     pub result: u32,
     pub bits: usize,
@@ -25,7 +25,7 @@ pub fn decode_numbers(d: Decoded) -> DecodeNumbers
     }
 }
 
-#[derive(Drop)]
+#[derive(Clone, Copy)]
 pub struct EncodeNumbers {
     pub result: u32,
     pub bytes: usize,

@@ -6,7 +6,7 @@ ghost use Rattle.cart_numbers.specs.Slices.{encode_slice_numbers, decode_slice_n
 
 use slice_shape::{Code, DecodedSlice, EncodedSlice};
 
-#[derive(Drop)]
+#[derive(Clone, Copy)]
 pub struct SliceEncodeNumbers {
     pub result: u32,
     pub y: Code,
@@ -44,7 +44,7 @@ pub fn encode_numbers(e: EncodedSlice) -> SliceEncodeNumbers
     }
 }
 
-#[derive(Drop)]
+#[derive(Clone, Copy)]
 pub struct SliceDecodeNumbers {
     pub result: u32,
     pub component: usize,

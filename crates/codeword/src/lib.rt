@@ -11,7 +11,7 @@ use bitstream_writer::Word;
 mod read; // a codeword at a cursor
 pub mod words; // a codeword as one field
 
-#[derive(Drop)]
+#[derive(Clone, Copy)]
 pub enum Codebook {
     ExpGolomb(u32),
     RiceExp {

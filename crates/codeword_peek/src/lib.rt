@@ -13,14 +13,14 @@ use codeword::Codebook;
 pub const SHOWN: u32 = 57;
 
 // The codeword at the top of a word. Its value is told where it is SHOWN bits long at most.
-#[derive(Drop)]
+#[derive(Clone, Copy)]
 pub struct Peeked {
     pub len: u32,
     pub value: u32,
 }
 
 // A combination; exp-Golomb of order k is the one of 0, k and k + 1.
-#[derive(Drop)]
+#[derive(Clone, Copy)]
 struct Combo {
     last: u32,
     r: u32,

@@ -6,7 +6,7 @@ ghost use Rattle.entropy_elements.specs.Values.{first_dc, next_dc, level_of};
 use crate::range::MOST;
 
 // A DC, whether its difference is negative, and that difference's magnitude; or out of range (refusal 8).
-#[derive(Drop)]
+#[derive(Clone, Copy)]
 pub enum Dc {
     Is {
         dc: i32,
@@ -54,7 +54,7 @@ pub fn next_dc(dc: i32, last_negative: bool, s: u32) -> Dc
 }
 
 // A level, or out of range (refusal 8).
-#[derive(Drop)]
+#[derive(Clone, Copy)]
 pub enum Level {
     Is(i32),
     Out,

@@ -168,7 +168,7 @@ fn shown_pair(
 }
 
 // What one word shows: where it fits, a run, a level and whether its sign is a 1.
-#[derive(Drop)]
+#[derive(Clone, Copy)]
 struct Seen {
     fits: bool,
     run: Peeked,

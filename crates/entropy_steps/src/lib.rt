@@ -11,7 +11,7 @@ use codeword::Codebook;
 use entropy_elements::values::{Dc, Level};
 
 // What the next DC looks back at: where it begins, the last DC, the last difference's sign and the codebook that its magnitude chose.
-#[derive(Drop)]
+#[derive(Clone, Copy)]
 pub struct Dcs {
     pub at: usize,
     pub dc: i32,
@@ -19,7 +19,7 @@ pub struct Dcs {
     pub book: Codebook,
 }
 
-#[derive(Drop)]
+#[derive(Clone, Copy)]
 pub enum DcStep {
     To(Dcs),
     No(Refusal),
@@ -48,7 +48,7 @@ pub fn dc_to(d: Dc, at: usize) -> DcStep
 }
 
 // What the next run or level looks back at: where it begins, its place in the list, and the codebooks of the next run and the next level.
-#[derive(Drop)]
+#[derive(Clone, Copy)]
 pub struct Acs {
     pub at: usize,
     pub place: usize,
@@ -56,7 +56,7 @@ pub struct Acs {
     pub levels: Codebook,
 }
 
-#[derive(Drop)]
+#[derive(Clone, Copy)]
 pub enum RunStep {
     To(Acs),
     No(Refusal),
@@ -81,7 +81,7 @@ pub fn run_to(total: usize, s: Acs, run: u32, at: usize) -> RunStep
     })
 }
 
-#[derive(Drop)]
+#[derive(Clone, Copy)]
 pub enum LevelStep {
     To(i32, Acs),
     No(Refusal),

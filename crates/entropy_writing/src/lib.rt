@@ -16,7 +16,7 @@ use bitstream_writer::{Word, words};
 use codeword::Codebook;
 
 // What the next DC looks back at: the last one, whether the last difference was negative, and the codebook that is next.
-#[derive(Drop)]
+#[derive(Clone, Copy)]
 struct WriterDcs {
     dc: i32,
     negative: bool,
@@ -60,7 +60,7 @@ fn dc_after(s: WriterDcs, c: i32) -> WriterDcs
 }
 
 // What the next level looks back at: the zeros since the last one, and the codebooks of runs and levels that are next.
-#[derive(Drop)]
+#[derive(Clone, Copy)]
 struct WriterAcs {
     run: u32,
     runs: Codebook,

@@ -8,7 +8,7 @@ ghost use Rattle.probe.specs.Bits.{result_of, value_of, next_told, put_outcome, 
 use bitstream::{Cursor, Read};
 
 // An answer taken apart.
-#[derive(Drop)]
+#[derive(Clone, Copy)]
 pub struct Answer {
     pub result: u32,
     pub value: u32,

@@ -9,7 +9,7 @@ use alpha_elements::{AlphaChannelType, Kind};
 use slice_shape::Blocks;
 
 // A result, and the number that a selector stands for.
-#[derive(Drop)]
+#[derive(Clone, Copy)]
 struct Number {
     result: u32,
     value: usize,

@@ -10,7 +10,7 @@ use quant::{QuantMatrices, scans};
 // ---- an entry of a table
 
 // An entry taken apart.
-#[derive(Drop)]
+#[derive(Clone, Copy)]
 struct Entry {
     result: u32,
     value: usize,

@@ -9,21 +9,21 @@ pub mod tables; // the weight tables
 mod weights; // a weight, a table of them
 
 // A pair of weight tables, each a row of the block after the other. Valid weights are 2..63.
-#[derive(Drop)]
+#[derive(Clone, Copy)]
 pub struct QuantMatrices {
     pub luma: [u8; 64],
     pub chroma: [u8; 64],
 }
 
 // How a blend is answered.
-#[derive(Drop)]
+#[derive(Clone, Copy)]
 pub enum Choice {
     Blended,
     Refused(Refusal),
 }
 
 // An enum holds no array, so the pair stands beside the answer; where the number is refused, it is the flat one.
-#[derive(Drop)]
+#[derive(Clone, Copy)]
 pub struct Blend {
     pub choice: Choice,
     pub pair: QuantMatrices,

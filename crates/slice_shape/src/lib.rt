@@ -23,13 +23,13 @@ pub const COMPONENT_LIST: usize = 64 * COMPONENT_BLOCKS;
 pub const SLICE_LIST: usize = 3 * COMPONENT_LIST;
 
 // A component's code: its bytes, and its bits before the padding.
-#[derive(Drop)]
+#[derive(Clone, Copy)]
 pub struct Code {
     pub bytes: usize,
     pub bits: usize,
 }
 
-#[derive(Drop)]
+#[derive(Clone, Copy)]
 pub enum EncodedSlice {
     Done { y: Code, cb: Code, cr: Code },
     Room { needed: usize }, // refusal 3
@@ -37,7 +37,7 @@ pub enum EncodedSlice {
 }
 
 // Done with the bits read of each component; the arguments are refused; or a component is, and why.
-#[derive(Drop)]
+#[derive(Clone, Copy)]
 pub enum DecodedSlice {
     Done { y: usize, cb: usize, cr: usize },
     Refused(Refusal),
@@ -57,7 +57,7 @@ pub fn chroma_blocks(chroma: usize) -> usize
 }
 
 // A number of blocks, or an unknown chroma format (refusal 13).
-#[derive(Drop)]
+#[derive(Clone, Copy)]
 pub enum Blocks {
     Count(usize),
     Refused(Refusal),

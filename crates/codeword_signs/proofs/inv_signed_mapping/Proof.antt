@@ -13,23 +13,29 @@ use Rattle.codeword_signs.proofs.SignLaws.{integer-even, integer-odd}
 use Rattle.codeword_signs.proofs.inv_signed_mapping.Statement.{statement}
 use Rattle.codeword_signs.proofs.inv_signed_mapping.Tie as tie
 
-cast-half : tie.Need-overflow-cast-half
+cast-half : tie.Need-overflow_cast-half
 cast-half c = search rules
 
 half_is : (c : tie.Start) → to_z w32 (c.args.s / 2) ≡ pos (c.args.s / 2)
 half_is c = to_z_pos w32 (omega (arith, c.ranges.s.fits))
 
-returns : tie.Need-returns
-returns c = half_is c.before ∙ sym (integer-even c.before.args.s c.if1.true)
+returns : tie.Need-returns-then-s-eq0
+returns c = half_is c.before ∙ sym (integer-even c.before.args.s c.if-s-eq0.true)
 
-sub-result : tie.Need-overflow-sub-result
+sub-result : tie.Need-overflow_sub-result
 sub-result c =
     rw (half_is c.before, minus-one-sub-pos (c.before.args.s / 2)) (record { sfits = omega (arith, c.before.ranges.s.fits) })
 
-returns-2 : tie.Need-returns-2
+returns-2 : tie.Need-returns
 returns-2 c =
     let s = c.before.args.s in
-    to_z-of_z (sub-result c) ∙ (rw (half_is c.before) (minus-one-sub-pos (s / 2) ∙ sym (integer-odd s c.if1.false)))
+    to_z-of_z (sub-result c) ∙ (rw (half_is c.before) (minus-one-sub-pos (s / 2) ∙ sym (integer-odd s c.if-s-eq0.false)))
 
-pub inv-signed-mapping-spec : {M : Type 1} → statement M
-inv-signed-mapping-spec = tie.close (tie.spec cast-half returns sub-result returns-2)
+pub inv_signed_mapping_spec : {M : Type 1} → statement M
+inv_signed_mapping_spec =
+    tie.close
+    (tie.spec
+    cast-half
+    returns
+    sub-result
+    returns-2)

@@ -1,0 +1,18 @@
+-- `bitstream_writer::bytes::emit` meets its contract. The loop's invariant: what is still to be written, written into the buffer as it is, gives the
+-- contract's buffer. The measure is how many bits are left.
+use mathlib.Core.Path.{◌≡◌, refl, sym, ap, ◌∙◌}
+use mathlib.Core.List.{List}
+use Prim.Native.Nat.{ℕ, ◌+◌, ◌-◌, ◌*◌, ◌/◌, ◌%◌, ◌^◌, ◌≤◌}
+use native.Mathlib.Omega.{arith}
+use lib.ListN.{length, set}
+use Rattle.bitstream.specs.Bits.{field}
+use Rattle.bitstream.specs.Puts.{stored_from}
+use Rattle.bitstream.proofs.FieldLaws.{field-split}
+use Rattle.bitstream.proofs.PutLaws.{from-none, from_byte, from_last}
+use Rattle.bitstream_writer.proofs.bytes.emit.Given as goal
+
+abbrev pub invariant-loop-left : goal.invariant-loop-left
+invariant-loop-left l = (stored_from l.buf l.j (field l.left l.word) ≡ stored_from l.initial.buf l.i (field l.n l.word)) × (length l.buf ≡ length l.initial.buf) × (8 * l.j + l.left ≤ 8 * length l.buf) × (l.left ≤ l.n)
+
+abbrev pub decreases-loop-left : goal.decreases-loop-left
+decreases-loop-left l = l.left

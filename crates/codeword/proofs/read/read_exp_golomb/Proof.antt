@@ -1,5 +1,4 @@
 -- `codeword::read::read_exp_golomb` meets its contract.
--- Assumes nothing.
 use mathlib.Core.Path.{◌≡◌, sym, ap, ◌∙◌}
 use Prim.Native.Nat.{◌+◌, ◌-◌, ◌^◌}
 use native.Mathlib.Nat.{zero-add}
@@ -16,43 +15,44 @@ use borrow.Author.Rules.{rules}
 use Rattle.codeword.proofs.read.read_exp_golomb.Statement.{statement}
 use Rattle.codeword.proofs.read.read_exp_golomb.Tie as tie
 
-zero-prefix-requires : tie.Need-zero-prefix-requires
+zero-prefix-requires : tie.Need-zero_prefix-zeros-requires
 zero-prefix-requires c κs = search rules
 
-enum-known-zeros : tie.Need-enum-known-zeros
+enum-known-zeros : tie.Need-enum_known-zeros
 enum-known-zeros c = search rules
 
-enum-known-zeros-2 : tie.Need-enum-known-zeros-2
+enum-known-zeros-2 : tie.Need-enum_known-zeros-in-Value-1
 enum-known-zeros-2 c = search rules
 
 -- the zeros that were told
-found : (c : tie.After-known-told2) → let a = c.before.before.before.before.before.args in let g = c.before.zeros2.given.0 in
-    gives g.0 g.1.0.at ≡ outcome_at (zero_prefix 32) a.payload.now a.c.at
-found c = ap told_read (sym c.before.zeros2.given.1) ∙ c.before.before.before.zero-prefix.ensures
+found : (c : tie.In-Value) → let a = c.args in gives c.in-Value.value c.in-Value.next.at ≡ outcome_at (zero_prefix 32) a.payload.now a.c.at
+found c = ap told_read (sym c.in-Value.is) ∙ c.zero_prefix-zeros.ensures
 
-exp-suffix-requires : tie.Need-exp-suffix-requires
+exp-suffix-requires : tie.Need-exp_suffix-requires
 exp-suffix-requires c κs =
-    let a = c.before.before.before.before.before.args in
-    let g = c.before.zeros2.given.0 in
-    omega (arith, zeros-few (ExpGolomb a.k) a.payload.now a.c.at g.0 g.1.0.at (found c))
+    let a = c.args in
+    omega (arith, zeros-few (ExpGolomb a.k) a.payload.now a.c.at c.in-Value.value c.in-Value.next.at (found c))
 
-returns : tie.Need-returns
+returns : tie.Need-returns-in-No
 returns c =
-    let b = c.before.before.before in
-    let a = b.before.before.args in
-    let g = c.before.zeros.given in
-    code-stop (ExpGolomb a.k) a.payload.now a.c.at (number_of g.0.0) (ap told_read (sym g.1) ∙ b.zero-prefix.ensures)
+    let a = c.args in
+    code-stop (ExpGolomb a.k) a.payload.now a.c.at (number_of c.in-No.why) (ap told_read (sym c.in-No.is) ∙ c.zero_prefix-zeros.ensures)
 
-returns-2 : tie.Need-returns-2
+returns-2 : tie.Need-returns-in-Value
 returns-2 c =
-    let a = c.before.before.before.before.before.before.args in
-    let g = c.before.before.zeros2.given.0 in
-    let same = ap (suffix (g.0 + a.k)) (zero-add (2 ^ (g.0 + a.k) - 2 ^ a.k)) ∙ sym (read_suffix-exp a.k g.0) in
-    c.exp-suffix.ensures
-    ∙ ap (λ (m : Reader). outcome_at m a.payload.now g.1.0.at) same
-    ∙ code-after (ExpGolomb a.k) a.payload.now a.c.at g.0 g.1.0.at (found c.before)
+    let a = c.args in
+    let same = ap (suffix (c.in-Value.value + a.k)) (zero-add (2 ^ (c.in-Value.value + a.k) - 2 ^ a.k)) ∙ sym (read_suffix-exp a.k c.in-Value.value) in
+    c.exp_suffix.ensures
+    ∙ ap (λ (m : Reader). outcome_at m a.payload.now c.in-Value.next.at) same
+    ∙ code-after (ExpGolomb a.k) a.payload.now a.c.at c.in-Value.value c.in-Value.next.at (found c.before)
 
-pub read-exp-golomb-spec : {M : Type 1} → statement M
-read-exp-golomb-spec =
+pub read_exp_golomb_spec : {M : Type 1} → statement M
+read_exp_golomb_spec =
     tie.close
-    (tie.spec zero-prefix-requires enum-known-zeros enum-known-zeros-2 exp-suffix-requires returns returns-2)
+    (tie.spec
+    zero-prefix-requires
+    enum-known-zeros
+    enum-known-zeros-2
+    exp-suffix-requires
+    returns
+    returns-2)

@@ -1,5 +1,1 @@
-pub mod Names
-pub mod Walking
-pub mod Behind
-pub mod Lent
 pub mod Unique

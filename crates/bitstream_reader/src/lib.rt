@@ -1,6 +1,7 @@
 // The reader object: a payload and a bit position in it, as the Rust's BitReader has them, over the functions of `Cursor`, which do the work.
-// The borrow checker covers no function over it, so each is proved by a walk of its code, by hand. `first_fields` has plain parameters: whoever calls it
-// needs no walk.
+// The borrow checker covers each function over it, and the search proves them all: there is no proof file.
+#![tactic(auto)]
+
 ghost use Rattle.std.specs.Prelude.{◌≡◌, drop};
 ghost use Rattle.bitstream.specs.Bits.{bits_of, ended};
 ghost use Rattle.bitstream.specs.Reading.{read_bits};

@@ -1,4 +1,6 @@
 // Coefficients as bytes, for a caller in C: four bytes each, the lowest first, 32-bit two's complement.
+#![tactic(auto)]
+
 ghost use Rattle.std.specs.Prelude.{◌≡◌, ◌+◌, ◌*◌, ◌%◌, ◌≤◌, ◌<◌, length, get_or};
 ghost use Rattle.cart_bytes.specs.Bytes.{int_of, word_of, joined, ints_of, bytes_of};
 

@@ -1,4 +1,6 @@
 // Weight matrices, block scans and the quantization scale: quant.rs, without the choice of a pair by profile, which is frame.rs's.
+#![tactic(auto)]
+
 ghost use Rattle.std.specs.Prelude.{◌≡◌};
 ghost use Rattle.quant.specs.Weights.{weights_valid, load_luma, load_chroma, is_default, flat_pair, perceptual_pair, proxy_pair, lt_pair, standard_pair, hq_pair, told_blend, answered, blend_of, qscale_of};
 

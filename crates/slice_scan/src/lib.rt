@@ -1,4 +1,6 @@
 // Slice scan: document 01, section Slice scan; build_slice_scan and inverse_slice_scan of slice.rs, both as gathers, so that each place is stored once.
+#![tactic(auto)]
+
 ghost use Rattle.std.specs.Prelude.{◌≡◌, ◌+◌, ◌*◌, ◌≤◌, ◌<◌, pos, get_or, length};
 ghost use Rattle.slice_scan.specs.Scan.{scanned_place, natural, scanned_of, placed, placed_of};
 ghost use Rattle.slice_scan.specs.Shapes.{Shape, Lists, Indices, Laid};

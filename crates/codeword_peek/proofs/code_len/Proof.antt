@@ -1,41 +1,38 @@
 -- `codeword_peek::code_len` meets its contract.
--- Assumes nothing.
 use Rattle.std.proofs.Common.{◌^◌, ◌<◌, ◌∙◌, rules}
 use Rattle.codeword_peek.proofs.ComboLaws.{length-picked}
 use Rattle.codeword_peek.proofs.code_len.Statement.{statement}
 use Rattle.codeword_peek.proofs.code_len.Tie as tie
 
-mul-wrapping-sub-u32 : tie.Need-overflow-mul-wrapping-sub-u32
+mul-wrapping-sub-u32 : tie.Need-overflow_mul-q
 mul-wrapping-sub-u32 c = search rules
 
-add-wrapping-sub-u32 : tie.Need-overflow-add-wrapping-sub-u32
+add-wrapping-sub-u32 : tie.Need-overflow_add-q
 add-wrapping-sub-u32 c = search rules
 
-wrapping-sub-u32-requires : tie.Need-wrapping-sub-u32-requires
+wrapping-sub-u32-requires : tie.Need-wrapping_sub_u32-far-requires
 wrapping-sub-u32-requires c κs = search rules
 
-add-pick : tie.Need-overflow-add-pick
+add-pick : tie.Need-overflow_add-q-2
 add-pick c = search rules
 
-add-pick-2 : tie.Need-overflow-add-pick-2
+add-pick-2 : tie.Need-overflow_add-q-3
 add-pick-2 c = search rules
 
 pick-requires : tie.Need-pick-requires
 pick-requires c κs = search rules
 
-wrapped : (c : tie.After-wrapping-sub-u32) → c.wrapping-sub-u32.result < 2 ^ 32
+wrapped : (c : tie.After-wrapping_sub_u32-far) → c.wrapping_sub_u32-far.result < 2 ^ 32
 wrapped c = search rules
 
 returns : tie.Need-returns
 returns c =
-    let w = c.before.before.before in
-    let start = w.before.before in
-    let a = start.args in
-    let s = start.requires.0 in
-    c.pick.ensures ∙ length-picked a.b.last a.b.r a.b.e a.q w.wrapping-sub-u32.result s.last (wrapped w) w.wrapping-sub-u32.ensures
+    let a = c.args in
+    let s = c.requires.0 in
+    c.pick.ensures ∙ length-picked a.b.last a.b.r a.b.e a.q c.wrapping_sub_u32-far.result s.last (wrapped c.before.before.before) c.wrapping_sub_u32-far.ensures
 
-pub code-len-spec : {M : Type 1} → statement M
-code-len-spec =
+pub code_len_spec : {M : Type 1} → statement M
+code_len_spec =
     tie.close
     (tie.spec
     mul-wrapping-sub-u32

@@ -1,5 +1,4 @@
 -- `alpha_reading::end` meets its contract, case by case.
--- Assumes nothing.
 use Prim.Native.Nat.{ℕ, ◌-◌, ◌*◌, ◌≤◌}
 use native.Mathlib.Omega.{arith}
 use mathlib.Core.Path.{◌≡◌, refl, sym, ◌∙◌}
@@ -16,33 +15,39 @@ use Rattle.alpha_reading.proofs.end.Tie as tie
 unread : (p : List ℕ) (at : ℕ) → length (drop at (bits_of p)) ≡ length p * 8 - at
 unread p at = omega (arith, length-drop at (bits_of p), length-bits p)
 
-mul-if1 : tie.Need-overflow-mul-if1
+mul-if1 : tie.Need-overflow_mul-payload
 mul-if1 c = search rules
 
-sub-if1 : tie.Need-overflow-sub-if1
-sub-if1 c = let start = c.before in omega (arith, length-bits start.args.payload.now, start.requires.within)
+sub-if1 : tie.Need-overflow_sub-payload
+sub-if1 c = omega (arith, length-bits c.args.payload.now, c.requires.within)
 
-returns : tie.Need-returns
+returns : tie.Need-returns-then-payload-at-gt7
 returns c =
-    let a = c.before.before.args in
-    record { is = λ st out. finish-tail st out _ (omega (arith, unread a.payload.now a.at, c.if1.true)); here = tt }
+    let a = c.args in
+    record { is = λ st out. finish-tail st out _ (omega (arith, unread a.payload.now a.at, c.if-payload-at-gt7.true)); here = tt }
 
-end-of-data-requires : tie.Need-end-of-data-requires
+end-of-data-requires : tie.Need-end_of_data-requires
 end-of-data-requires c κs = search rules
 
 -- at most 7 bits are left
-few : (c : tie.After-end-of-data) → let a = c.before.before.before.args in length (drop a.at (bits_of a.payload.now)) ≤ 7
-few c = let a = c.before.before.before.args in omega (arith, unread a.payload.now a.at, c.before.if1.false)
+few : (c : tie.After-end_of_data) → let a = c.args in length (drop a.at (bits_of a.payload.now)) ≤ 7
+few c = let a = c.args in omega (arith, unread a.payload.now a.at, c.if-payload-at-gt7.false)
 
-returns-2 : tie.Need-returns-2
+returns-2 : tie.Need-returns-then-end_of_data
 returns-2 c =
-    let e = c.before in
-    record { is = λ st out. finish-ended st out _ (few e) (sym e.end-of-data.ensures ∙ c.if2.true); here = refl }
+    record { is = λ st out. finish-ended st out _ (few c.before) (sym c.end_of_data.ensures ∙ c.if-end_of_data.true); here = refl }
 
-returns-3 : tie.Need-returns-3
+returns-3 : tie.Need-returns
 returns-3 c =
-    let e = c.before in
-    record { is = λ st out. finish-padding st out _ (few e) (sym e.end-of-data.ensures ∙ c.if2.false); here = tt }
+    record { is = λ st out. finish-padding st out _ (few c.before) (sym c.end_of_data.ensures ∙ c.if-end_of_data.false); here = tt }
 
-pub end-spec : {M : Type 1} → statement M
-end-spec = tie.close (tie.spec mul-if1 sub-if1 returns end-of-data-requires returns-2 returns-3)
+pub end_spec : {M : Type 1} → statement M
+end_spec =
+    tie.close
+    (tie.spec
+    mul-if1
+    sub-if1
+    returns
+    end-of-data-requires
+    returns-2
+    returns-3)

@@ -1,5 +1,4 @@
 -- `alpha_reading::small_step` meets its contract.
--- Assumes nothing.
 use Prim.Native.Nat.{ℕ, ◌+◌, ◌≤◌}
 use native.Mathlib.Omega.{arith}
 use mathlib.Core.Path.{◌≡◌, ap, ◌∙◌}
@@ -14,58 +13,49 @@ use borrow.Author.Rules.{rules}
 use Rattle.alpha_reading.proofs.small_step.Statement.{statement}
 use Rattle.alpha_reading.proofs.small_step.Tie as tie
 
-small-width-requires : tie.Need-small-width-requires
+small-width-requires : tie.Need-small_width-requires
 small-width-requires c κs = search rules
 
-add-read-bits : tie.Need-overflow-add-read-bits
-add-read-bits c = record { fits = omega (arith, c.small_width.ensures, (sizes c.before.before.args.kind).small) }
+add-read-bits : tie.Need-overflow_add-small_width
+add-read-bits c = record { fits = omega (arith, c.small_width.ensures, (sizes c.args.kind).small) }
 
-read-bits-requires : tie.Need-read-bits-requires
+read-bits-requires : tie.Need-read_bits-read-requires
 read-bits-requires c κs = search rules
 
-enum-known-read : tie.Need-enum-known-read
+enum-known-read : tie.Need-enum_known-read
 enum-known-read c = search rules
 
-enum-known-read-2 : tie.Need-enum-known-read-2
+enum-known-read-2 : tie.Need-enum_known-read-in-Value-1
 enum-known-read-2 c = search rules
 
 -- what was read is a field of the kind's width, and a bit
-said : (c : tie.After-read-bits) → let a = c.before.before.before.args in
-    told_read c.read-bits.result ≡ outcome_at (read_bits (small_width_of a.kind + 1)) a.payload.now a.at
+said : (c : tie.After-read_bits-read) → let a = c.args in
+    told_read c.read_bits-read.result ≡ outcome_at (read_bits (small_width_of a.kind + 1)) a.payload.now a.at
 said c =
-    let a = c.before.before.before.args in
-    c.read-bits.ensures ∙ ap (λ (w : ℕ). outcome_at (read_bits (w + 1)) a.payload.now a.at) c.before.small_width.ensures
+    let a = c.args in
+    c.read_bits-read.ensures ∙ ap (λ (w : ℕ). outcome_at (read_bits (w + 1)) a.payload.now a.at) c.small_width.ensures
 
-narrow : (c : tie.After-read-bits) → small_width_of c.before.before.before.args.kind + 1 ≤ 32
-narrow c = omega (arith, (sizes c.before.before.before.args.kind).small)
+narrow : (c : tie.After-read_bits-read) → small_width_of c.args.kind + 1 ≤ 32
+narrow c = omega (arith, (sizes c.args.kind).small)
 
-small-sample-requires : tie.Need-small-sample-requires
+small-sample-requires : tie.Need-small_sample-v-requires
 small-sample-requires c κs =
-    let b = c.before.before.before in
-    let start = b.before.before.before in
-    let a = start.args in
-    let g = c.before.read2.given in
-    (start.requires.1, omega (arith, field_lt a.payload.now a.at (small_width_of a.kind + 1) b.read-bits.result start.requires.0 (narrow b) (said b) g.0.0 g.0.1.0 g.1, pow-small-sign a.kind))
+    let a = c.args in
+    (c.requires.1, omega (arith, field_lt a.payload.now a.at (small_width_of a.kind + 1) c.read_bits-read.result c.requires.0 (narrow c.before) (said c.before) c.in-Value.value c.in-Value.next c.in-Value.is, pow-small-sign a.kind))
 
-returns : tie.Need-returns
+returns : tie.Need-returns-in-No
 returns c =
-    let b = c.before.before.before in
-    let start = b.before.before.before in
-    let a = start.args in
-    let g = c.before.read.given in
-    field-stepped-no a.payload.now b.read-bits.result a.kind a.prev a.at start.requires.0 (small_width_of a.kind + 1) small_spelt (narrow b) (said b) g.0.0 g.1
+    let a = c.args in
+    field-stepped-no a.payload.now c.read_bits-read.result a.kind a.prev a.at c.requires.0 (small_width_of a.kind + 1) small_spelt (narrow c.before) (said c.before) c.in-No.why c.in-No.is
 
-returns-2 : tie.Need-returns-2
+returns-2 : tie.Need-returns-in-Value
 returns-2 c =
-    let b = c.before.before.before.before in
-    let start = b.before.before.before in
-    let a = start.args in
-    let g = c.before.before.read2.given in
-    field-stepped a.payload.now b.read-bits.result a.kind a.prev a.at start.requires.0 (small_width_of a.kind + 1) small_spelt (narrow b) (said b) g.0.0 g.0.1.0 g.1
-    c.small-sample.result c.small-sample.ensures
+    let a = c.args in
+    field-stepped a.payload.now c.read_bits-read.result a.kind a.prev a.at c.requires.0 (small_width_of a.kind + 1) small_spelt (narrow c.before.before) (said c.before.before) c.in-Value.value c.in-Value.next c.in-Value.is
+    c.small_sample-v.result c.small_sample-v.ensures
 
-pub small-step-spec : {M : Type 1} → statement M
-small-step-spec =
+pub small_step_spec : {M : Type 1} → statement M
+small_step_spec =
     tie.close
     (tie.spec
     small-width-requires

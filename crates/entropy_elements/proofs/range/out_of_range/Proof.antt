@@ -1,5 +1,4 @@
 -- `entropy_elements::range::out_of_range` meets its contract. The invariant: what was found up to i, and the coefficients from i on, decide it.
--- Assumes nothing.
 use mathlib.Core.Path.{◌≡◌, refl, ap, ◌∙◌}
 use mathlib.Core.Bool.{not, ◌||◌}
 use Prim.Native.Nat.{◌-◌}
@@ -15,50 +14,46 @@ use Rattle.entropy_elements.proofs.RangeLaws.{range-more, range_all}
 use Rattle.entropy_elements.proofs.range.out_of_range.Statement.{statement}
 use Rattle.entropy_elements.proofs.range.out_of_range.Tie as tie
 
-abbrev invariant-loop : tie.invariant-loop
+abbrev invariant-loop : tie.invariant-loop-i
 invariant-loop coeffs wrong₀ i₀ wrong i = not (in_range coeffs) ≡ (wrong || not (in_range (drop i coeffs)))
 
-abbrev decreases-loop : tie.decreases-loop
+abbrev decreases-loop : tie.decreases-loop-i
 decreases-loop coeffs wrong₀ i₀ wrong i = length coeffs - i
 
-loop-holds : tie.Need-loop-init invariant-loop decreases-loop
+loop-holds : tie.Need-loop-i-init invariant-loop decreases-loop
 loop-holds c = refl
 
-mul-magnitude : tie.Need-overflow-mul-magnitude invariant-loop decreases-loop
+mul-magnitude : tie.Need-offset_bounds-coeffs-i invariant-loop decreases-loop
 mul-magnitude c = search rules
 
-shared-slice-copy-out-magnitude : tie.Need-shared-slice-copy-out-magnitude invariant-loop decreases-loop
+shared-slice-copy-out-magnitude : tie.Need-bounds-coeffs-i invariant-loop decreases-loop
 shared-slice-copy-out-magnitude c = search rules
 
-magnitude-requires : tie.Need-magnitude-requires invariant-loop decreases-loop
+magnitude-requires : tie.Need-magnitude-m-requires invariant-loop decreases-loop
 magnitude-requires c κs = search rules
 
-m-is : (c : tie.After-magnitude invariant-loop decreases-loop) → let at = c.before.before.before in
-    c.magnitude.result ≡ nat_abs (get_or at.before.args.coeffs.now at.loop.i (pos 0))
+m-is : (c : tie.After-magnitude-m invariant-loop decreases-loop) → c.magnitude-m.result ≡ nat_abs (get_or c.args.coeffs.now c.loop-i.i (pos 0))
 m-is c =
-    let at = c.before.before.before in
-    let z : ℤ = get_or at.before.args.coeffs.now at.loop.i (pos 0) in
-    let back : to_z w32 (of_z w32 z) ≡ z = to_z-of_z (sfits_of c.before.magnitude-arg.given) in
-    c.magnitude.ensures ∙ ap nat_abs back
+    let z : ℤ = get_or c.args.coeffs.now c.loop-i.i (pos 0) in
+    let back : to_z w32 (of_z w32 z) ≡ z = to_z-of_z {w = w32} (search rules) in
+    c.magnitude-m.ensures ∙ ap nat_abs back
 
-add-i : tie.Need-overflow-add-i invariant-loop decreases-loop
+add-i : tie.Need-overflow_add-i invariant-loop decreases-loop
 add-i c = search rules
 
-loop-less : tie.Need-loop-smaller invariant-loop decreases-loop
+loop-less : tie.Need-loop-i-smaller invariant-loop decreases-loop
 loop-less c = search rules
 
-loop-again : tie.Need-loop-preserved invariant-loop decreases-loop
+loop-again : tie.Need-loop-i-preserved invariant-loop decreases-loop
 loop-again c =
-    let at = c.before.before.before in
-    at.loop.invariant ∙ range-more at.before.args.coeffs.now at.loop.i at.loop.wrong c.magnitude.result (m-is c) (omega arith)
+    c.loop-i.invariant ∙ range-more c.args.coeffs.now c.loop-i.i c.loop-i.wrong c.magnitude-m.result (m-is c) (omega arith)
 
 returns : tie.Need-returns invariant-loop decreases-loop
 returns c =
-    let at = c.before in
-    range_all at.before.args.coeffs.now at.loop.i at.loop.wrong at.loop.invariant c.loop-test.false
+    range_all c.args.coeffs.now c.loop-i.i c.loop-i.wrong c.loop-i.invariant c.loop-i-test.false
 
-pub out-of-range-spec : {M : Type 1} → statement M
-out-of-range-spec =
+pub out_of_range_spec : {M : Type 1} → statement M
+out_of_range_spec =
     tie.close
     (tie.spec
     invariant-loop

@@ -1,5 +1,4 @@
 -- `entropy_elements::values::first_dc` meets its contract.
--- Assumes nothing.
 use mathlib.Core.Path.{◌≡◌, sym, ap, ◌∙◌}
 use mathlib.Core.Bool.{false}
 use native.Mathlib.Omega.{arith}
@@ -14,29 +13,34 @@ use Rattle.entropy_elements.proofs.ValueLaws.{dc-is, dc-out}
 use Rattle.entropy_elements.proofs.values.first_dc.Statement.{statement}
 use Rattle.entropy_elements.proofs.values.first_dc.Tie as tie
 
-inv-signed-mapping-requires : tie.Need-inv-signed-mapping-requires
+inv-signed-mapping-requires : tie.Need-inv_signed_mapping-dc-requires
 inv-signed-mapping-requires c κs = search rules
 
 magnitude-requires : tie.Need-magnitude-requires
 magnitude-requires c κs = search rules
 
 -- the DC, and its magnitude
-dc-read : (c : tie.After-inv-signed-mapping) → to_z w32 (of_z w32 c.inv-signed-mapping.result) ≡ integer_of c.before.args.s
-dc-read c = to_z-of_z (record { sfits = c.inv-signed-mapping.type-inv }) ∙ c.inv-signed-mapping.ensures
+dc-read : (c : tie.After-inv_signed_mapping-dc) → to_z w32 (of_z w32 c.inv_signed_mapping-dc.result) ≡ integer_of c.args.s
+dc-read c = to_z-of_z {w = w32} (record { sfits = c.inv_signed_mapping-dc.type_inv }) ∙ c.inv_signed_mapping-dc.ensures
 
-m-is : (c : tie.After-magnitude) → c.magnitude.result ≡ nat_abs (integer_of c.before.before.args.s)
+m-is : (c : tie.After-magnitude) → c.magnitude.result ≡ nat_abs (integer_of c.args.s)
 m-is c = c.magnitude.ensures ∙ ap nat_abs (dc-read c.before)
 
-returns : tie.Need-returns
+returns : tie.Need-returns-then-magnitude-gt-MOST
 unfolding first_dc
-returns c = sym (dc-out (integer_of c.before.before.before.args.s) false 3 (omega (arith, m-is c.before, c.if1.true)))
+returns c = sym (dc-out (integer_of c.args.s) false 3 (omega (arith, m-is c.before, c.if-magnitude-gt-MOST.true)))
 
-returns-2 : tie.Need-returns-2
+returns-2 : tie.Need-returns
 unfolding first_dc
 returns-2 c =
     rw (dc-read c.before.before)
-    (sym (dc-is (integer_of c.before.before.before.args.s) false 3 (omega (arith, m-is c.before, c.if1.false))))
+    (sym (dc-is (integer_of c.args.s) false 3 (omega (arith, m-is c.before, c.if-magnitude-gt-MOST.false))))
 
-pub first-dc-spec : {M : Type 1} → statement M
-first-dc-spec =
-    tie.close (tie.spec inv-signed-mapping-requires magnitude-requires returns returns-2)
+pub first_dc_spec : {M : Type 1} → statement M
+first_dc_spec =
+    tie.close
+    (tie.spec
+    inv-signed-mapping-requires
+    magnitude-requires
+    returns
+    returns-2)

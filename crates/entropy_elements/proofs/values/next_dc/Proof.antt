@@ -1,5 +1,4 @@
 -- `entropy_elements::values::next_dc` meets its contract. A difference above twice the range cannot lead from a DC in range to one in range.
--- Assumes nothing.
 use mathlib.Core.Path.{◌≡◌, sym, ap, ◌∙◌}
 use native.Mathlib.Omega.{arith}
 use borrow.Author.Rules.{rules}
@@ -22,71 +21,65 @@ diff c = turned c.args.last_negative (integer_of c.args.s)
 abbrev total : tie.Start → ℤ
 total c = c.args.dc +ℤ diff c
 
-inv-signed-mapping-requires : tie.Need-inv-signed-mapping-requires
+inv-signed-mapping-requires : tie.Need-inv_signed_mapping-d-requires
 inv-signed-mapping-requires c κs = search rules
 
-magnitude-requires : tie.Need-magnitude-requires
+magnitude-requires : tie.Need-magnitude-m-requires
 magnitude-requires c κs = search rules
 
-d-is : (c : tie.After-inv-signed-mapping) → to_z w32 (of_z w32 c.inv-signed-mapping.result) ≡ integer_of c.before.args.s
-d-is c = to_z-of_z (record { sfits = c.inv-signed-mapping.type-inv }) ∙ c.inv-signed-mapping.ensures
+d-is : (c : tie.After-inv_signed_mapping-d) → to_z w32 (of_z w32 c.inv_signed_mapping-d.result) ≡ integer_of c.args.s
+d-is c = to_z-of_z {w = w32} (record { sfits = c.inv_signed_mapping-d.type_inv }) ∙ c.inv_signed_mapping-d.ensures
 
-m-is : (c : tie.After-magnitude) → c.magnitude.result ≡ nat_abs (diff c.before.before)
+m-is : (c : tie.After-magnitude-m) → c.magnitude-m.result ≡ nat_abs (diff c.before.before)
 m-is c =
-    let a = c.before.before.args in
-    c.magnitude.ensures ∙ ap nat_abs (d-is c.before) ∙ sym (nat_abs-turned a.last_negative (integer_of a.s))
+    let a = c.args in
+    c.magnitude-m.ensures ∙ ap nat_abs (d-is c.before) ∙ sym (nat_abs-turned a.last_negative (integer_of a.s))
 
-returns : tie.Need-returns
+returns : tie.Need-returns-then-m-gt1073741822
 unfolding next_dc
 returns c =
-    let start = c.before.before.before in
-    let d = diff start in
-    sym (dc-out (total start) (is_negative d) (nat_abs d) (omega (arith, m-is c.before, c.if1.true, start.requires, nat_abs-back start.args.dc d)))
+    let d = diff c.before.before.before in
+    sym (dc-out (total c.before.before.before) (is_negative d) (nat_abs d) (omega (arith, m-is c.before, c.if-m-gt1073741822.true, c.requires, nat_abs-back c.args.dc d)))
 
-turn-requires : tie.Need-turn-requires
+turn-requires : tie.Need-turn-t-requires
 turn-requires c κs = search rules
 
-t-is : (c : tie.After-turn) → to_z w32 (of_z w32 c.turn.result) ≡ diff c.before.before.before.before
+t-is : (c : tie.After-turn-t) → to_z w32 (of_z w32 c.turn-t.result) ≡ diff c.before.before.before.before
 t-is c =
-    let start = c.before.before.before.before in
-    to_z-of_z (record { sfits = c.turn.type-inv }) ∙ c.turn.ensures ∙ ap (turned start.args.last_negative) (d-is c.before.before.before)
+    to_z-of_z {w = w32} (record { sfits = c.turn-t.type_inv }) ∙ c.turn-t.ensures ∙ ap (turned c.args.last_negative) (d-is c.before.before.before)
 
-sum_is : (c : tie.After-turn) → to_z w32 (of_z w32 c.before.before.before.before.args.dc) +ℤ to_z w32 (of_z w32 c.turn.result) ≡ total c.before.before.before.before
-sum_is c = rw (t-is c, to_z-of_z c.before.before.before.before.ranges.dc)
+sum_is : (c : tie.After-turn-t) → to_z w32 (of_z w32 c.args.dc) +ℤ to_z w32 (of_z w32 c.turn-t.result) ≡ total c.before.before.before.before
+sum_is c = rw (t-is c, to_z-of_z c.ranges.dc)
 
-add-sum : tie.Need-overflow-add-sum
+add-sum : tie.Need-overflow_add-sum
 add-sum c =
-    let start = c.before.before.before.before in
     rw (sum_is c)
-    (sfits-nat_abs (total start) (omega (arith, m-is c.before.before, c.before.if1.false, nat_abs-add start.args.dc (diff start), start.requires)))
+    (sfits-nat_abs (total c.before.before.before.before) (omega (arith, m-is c.before.before, c.if-m-gt1073741822.false, nat_abs-add c.args.dc (diff c.before.before.before.before), c.requires)))
 
-magnitude-requires-2 : tie.Need-magnitude-requires-2
+magnitude-requires-2 : tie.Need-magnitude-requires
 magnitude-requires-2 c κs = search rules
 
-m2-is : (c : tie.After-magnitude2) → c.magnitude2.result ≡ nat_abs (total c.before.before.before.before.before)
-m2-is c = c.magnitude2.ensures ∙ ap nat_abs (to_z-of_z (add-sum c.before) ∙ sum_is c.before)
+m2-is : (c : tie.After-magnitude) → c.magnitude.result ≡ nat_abs (total c.before.before.before.before.before)
+m2-is c = c.magnitude.ensures ∙ ap nat_abs (to_z-of_z (add-sum c.before) ∙ sum_is c.before)
 
-returns-2 : tie.Need-returns-2
+returns-2 : tie.Need-returns-then-magnitude-gt-MOST
 unfolding next_dc
 returns-2 c =
-    let start = c.before.before.before.before.before.before in
-    let d = diff start in
-    sym (dc-out (total start) (is_negative d) (nat_abs d) (omega (arith, m2-is c.before, c.if2.true)))
+    let d = diff c.before.before.before.before.before.before in
+    sym (dc-out (total c.before.before.before.before.before.before) (is_negative d) (nat_abs d) (omega (arith, m2-is c.before, c.if-magnitude-gt-MOST.true)))
 
 negative-requires : tie.Need-negative-requires
 negative-requires c κs = search rules
 
-returns-3 : tie.Need-returns-3
+returns-3 : tie.Need-returns
 unfolding next_dc
 returns-3 c =
-    let start = c.before.before.before.before.before.before.before in
-    let turns = c.before.before.before in
-    let d = diff start in
-    rw (to_z-of_z (add-sum turns), sum_is turns, c.negative.ensures ∙ ap is_negative (t-is turns), m-is turns.before.before)
-    (sym (dc-is (total start) (is_negative d) (nat_abs d) (omega (arith, m2-is c.before.before, c.before.if2.false))))
+    let d = diff c.before.before.before.before.before.before.before in
+    rw (to_z-of_z (add-sum c.before.before.before), sum_is c.before.before.before, c.negative.ensures ∙ ap is_negative (t-is c.before.before.before), m-is c.before.before.before.before.before)
+    (sym (dc-is (total c.before.before.before.before.before.before.before) (is_negative d) (nat_abs d) (omega (arith, m2-is c.before.before, c.if-magnitude-gt-MOST.false))))
 
-pub next-dc-spec : {M : Type 1} → statement M
-next-dc-spec =
+pub next_dc_spec : {M : Type 1} → statement M
+next_dc_spec =
     tie.close
     (tie.spec
     inv-signed-mapping-requires

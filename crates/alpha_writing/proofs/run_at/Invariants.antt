@@ -1,0 +1,15 @@
+-- `alpha_writing::run_at` meets its contract. The invariant: the samples from i up to e are one run so far.
+use mathlib.Core.Path.{◌≡◌, subst}
+use Prim.Native.Nat.{◌-◌, ◌≤◌, ◌<◌}
+use native.Mathlib.Omega.{arith}
+use borrow.Author.Rules.{rules}
+use lib.ListN.{length}
+use Rattle.alpha_writing.specs.Writing.{RunStop}
+use Rattle.alpha_writing.proofs.RunLaws.{Along, along-start, along-next, along-other, along-stop}
+use Rattle.alpha_writing.proofs.run_at.Given as goal
+
+abbrev pub invariant-loop-e : goal.invariant-loop-e
+invariant-loop-e l = (l.i < l.e) × (l.e ≤ l.stop) × Along l.samples l.i l.e
+
+abbrev pub decreases-loop-e : goal.decreases-loop-e
+decreases-loop-e l = l.stop - l.e

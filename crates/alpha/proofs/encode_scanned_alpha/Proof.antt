@@ -1,5 +1,4 @@
 -- `alpha::encode_scanned_alpha` meets its contract: its arguments are refused, or taken.
--- Assumes nothing.
 use mathlib.Core.Path.{◌≡◌, sym, ap, ◌∙◌}
 use lib.ListN.{length}
 use Rattle.alpha_elements.specs.declared.Kind.{Kind}
@@ -10,45 +9,42 @@ use borrow.Author.Rules.{rules}
 use Rattle.alpha.proofs.encode_scanned_alpha.Statement.{statement}
 use Rattle.alpha.proofs.encode_scanned_alpha.Tie as tie
 
-test-requires : tie.Need-test-requires
+test-requires : tie.Need-test-tested-requires
 test-requires c κs = search rules
 
-enum-known-tested : tie.Need-enum-known-tested
+enum-known-tested : tie.Need-enum_known-tested
 enum-known-tested c = search rules
 
-enum-known-tested-2 : tie.Need-enum-known-tested-2
+enum-known-tested-2 : tie.Need-enum_known-tested-in-Known-1
 enum-known-tested-2 c = search rules
 
 -- what the arguments were answered
-tested : (c : tie.After-test) (x : Kind) → c.test.result ≡ x → let a = c.before.before.before.args in
+tested : (c : tie.After-test-tested) (x : Kind) → c.test-tested.result ≡ x → let a = c.args in
     alpha_arguments a.kind (length a.samples.now) 0 ≡ told_kind x
-tested c x e = sym c.test.ensures ∙ ap told_kind e
+tested c x e = sym c.test-tested.ensures ∙ ap told_kind e
 
-encode-tested-requires : tie.Need-encode-tested-requires
+encode-tested-requires : tie.Need-encode_tested-requires
 encode-tested-requires c κs =
-    let t = c.before.before.before.before in
-    let a = t.before.before.before.args in
-    let k = taken_of a.kind (length a.samples.now) 0 (tested t _ c.before.before.tested2.given.1) in
+    let a = c.args in
+    let k = taken_of a.kind (length a.samples.now) 0 (tested c.before.before _ c.in-Known.is) in
     k.few
 
-returns : tie.Need-returns
+returns : tie.Need-returns-in-Refused
 returns c =
-    let t = c.before.before.before in
-    let a = t.before.before.before.args in
-    sym (encode-by a.samples.now a.kind a.out.now (tested t _ c.before.tested.given.1))
+    let a = c.args in
+    sym (encode-by a.samples.now a.kind a.out.now (tested c.before _ c.in-Refused.is))
 
-same_length : tie.Need-same-length
+same_length : tie.Need-shape_of-out
 same_length c = search rules
 
-returns-2 : tie.Need-returns-2
+returns-2 : tie.Need-returns-in-Known
 returns-2 c =
-    let t = c.before.before.before.before.before.before.before in
-    let a = t.before.before.before.args in
-    c.before.before.encode-tested.ensures
-    ∙ sym (encode-by a.samples.now a.kind a.out.now (tested t _ c.before.before.before.before.before.tested2.given.1))
+    let a = c.args in
+    c.encode_tested.ensures
+    ∙ sym (encode-by a.samples.now a.kind a.out.now (tested c.before.before.before.before.before _ c.in-Known.is))
 
-pub encode-scanned-alpha-spec : {M : Type 1} → statement M
-encode-scanned-alpha-spec =
+pub encode_scanned_alpha_spec : {M : Type 1} → statement M
+encode_scanned_alpha_spec =
     tie.close
     (tie.spec
     test-requires

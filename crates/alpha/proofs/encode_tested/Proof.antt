@@ -1,5 +1,4 @@
 -- `alpha::encode_tested` meets its contract, case by case.
--- Assumes nothing.
 use Prim.Native.Nat.{◌*◌, ◌≤◌}
 use native.Mathlib.Omega.{arith}
 use mathlib.Core.Path.{◌≡◌, sym, ◌∙◌}
@@ -17,100 +16,90 @@ use Rattle.alpha_elements.proofs.ArgumentLaws.{writing-out, writing-in}
 use Rattle.alpha.proofs.encode_tested.Statement.{statement}
 use Rattle.alpha.proofs.encode_tested.Tie as tie
 
-out-of-range-requires : tie.Need-out-of-range-requires
+out-of-range-requires : tie.Need-out_of_range-requires
 out-of-range-requires c κs = search rules
 
-returns : tie.Need-returns
+returns : tie.Need-returns-then-out_of_range
 returns c =
-    let a = c.before.before.before.before.args in
-    sym (writing-out a.kind a.samples.now a.out.now (not-true (samples_in_range a.kind a.samples.now) (sym c.before.out_of_range.ensures ∙ c.if1.true)))
+    let a = c.args in
+    sym (writing-out a.kind a.samples.now a.out.now (not-true (samples_in_range a.kind a.samples.now) (sym c.out_of_range.ensures ∙ c.if-out_of_range.true)))
 
 -- the samples are in range, so that their code is written or there is no room
-inside : (c : tie.Else1) → let a = c.before.before.before.before.args in samples_in_range a.kind a.samples.now ≡ true
-inside c = let a = c.before.before.before.before.args in not-false (samples_in_range a.kind a.samples.now) (sym c.before.out_of_range.ensures ∙ c.if1.false)
+inside : (c : tie.Else-out_of_range) → let a = c.args in samples_in_range a.kind a.samples.now ≡ true
+inside c = let a = c.args in not-false (samples_in_range a.kind a.samples.now) (sym c.out_of_range.ensures ∙ c.if-out_of_range.false)
 
-fits : (c : tie.Else1) → let a = c.before.before.before.before.args in
+fits : (c : tie.Else-out_of_range) → let a = c.args in
     written (encode_alpha a.kind a.samples.now) a.out.now ≡ alpha_writing_of a.kind a.samples.now a.out.now
-fits c = let a = c.before.before.before.before.args in sym (writing-in a.kind a.samples.now a.out.now (inside c))
+fits c = let a = c.args in sym (writing-in a.kind a.samples.now a.out.now (inside c))
 
 -- ---- a buffer with room for any list
 
-most-bits-requires : tie.Need-most-bits-requires
+most-bits-requires : tie.Need-most_bits-requires
 most-bits-requires c κs = search rules
 
-cast-most : tie.Need-overflow-cast-most
+cast-most : tie.Need-overflow_cast-most
 cast-most c = search rules
 
 -- a list's most bits, which its code does not pass
-most : (c : tie.After-most-bits) → let a = c.before.before.before.before.before.args in
-    (c.most-bits.result * length a.samples.now ≤ alpha_code_limit) × (length (encode_alpha a.kind a.samples.now) ≤ c.most-bits.result * length a.samples.now)
+most : (c : tie.After-most_bits) → let a = c.args in
+    (c.most_bits.result * length a.samples.now ≤ alpha_code_limit) × (length (encode_alpha a.kind a.samples.now) ≤ c.most_bits.result * length a.samples.now)
 most c =
-    let start = c.before.before.before.before.before in
-    let a = start.args in
-    rw c.most-bits.ensures (most-le a.kind start.requires, encode-le a.kind a.samples.now)
+    let a = c.args in
+    rw c.most_bits.ensures (most-le a.kind c.requires, encode-le a.kind a.samples.now)
 
-mul_most : tie.Need-overflow-mul-most
+mul_most : tie.Need-overflow_mul-most
 mul_most c = omega (arith, most c)
 
-add_most : tie.Need-overflow-add-most
+add_most : tie.Need-overflow_add-most
 add_most c = omega (arith, most c)
 
-write-requires : tie.Need-write-requires
+write-requires : tie.Need-write-done-requires
 write-requires c κs =
-    let m = c.before.before in
-    (m.before.before.before.before.before.requires, inside m.before, omega (arith, most m, c.before.if2.true))
+    (c.requires, inside c.before.before.before, omega (arith, most c.before.before, c.if-most-out.true))
 
-add-bytes : tie.Need-overflow-add-bytes
+add-bytes : tie.Need-overflow_add-bytes
 add-bytes c =
-    let m = c.before.before.before.before.before in
-    omega (arith, c.before.before.write.ensures.0, most m)
+    omega (arith, c.write-done.ensures.0, most c.before.before.before.before.before)
 
-same_length : tie.Need-same-length
+same_length : tie.Need-shape_of-out-then-most-out
 same_length c = search rules
 
-returns-2 : tie.Need-returns-2
+returns-2 : tie.Need-returns-then-most-out
 returns-2 c =
-    let write = c.before.before.write in
-    let roomy = c.before.before.before.before in
-    let m = roomy.before in
-    let a = m.before.before.before.before.before.args in
-    written-done (encode_alpha a.kind a.samples.now) a.out.now write.ensures.0 (omega (arith, write.ensures.0, most m, roomy.if2.true)) write.ensures.0 write.ensures.1
-    ∙ fits m.before
+    let write = c.write-done in
+    let a = c.args in
+    written-done (encode_alpha a.kind a.samples.now) a.out.now write.ensures.0 (omega (arith, write.ensures.0, most c.before.before.before.before.before, c.if-most-out.true)) write.ensures.0 write.ensures.1
+    ∙ fits c.before.before.before.before.before.before
 
 -- ---- any other buffer
 
-count-requires : tie.Need-count-requires
-count-requires c κs = let e = c.before.before in (e.before.before.before.before.requires, inside e)
+count-requires : tie.Need-count-bits-requires
+count-requires c κs = (c.requires, inside c.before.before)
 
-add-needed : tie.Need-overflow-add-needed
+add-needed : tie.Need-overflow_add-needed
 add-needed c = search rules
 
-returns-3 : tie.Need-returns-3
+returns-3 : tie.Need-returns-then-out-needed
 returns-3 c =
-    let e = c.before.before.before.before in
-    let a = e.before.before.before.before.args in
-    written-room (encode_alpha a.kind a.samples.now) a.out.now c.before.count.ensures.0 c.if3.true ∙ fits e
+    let a = c.args in
+    written-room (encode_alpha a.kind a.samples.now) a.out.now c.count-bits.ensures.0 c.if-out-needed.true ∙ fits c.before.before.before.before
 
-write-requires-2 : tie.Need-write-requires-2
+write-requires-2 : tie.Need-write-written-requires
 write-requires-2 c κs =
-    let e = c.before.before.before.before.before in
-    (e.before.before.before.before.requires, inside e, omega (arith, c.before.before.count.ensures.0, c.before.if3.false))
+    (c.requires, inside c.before.before.before.before.before, omega (arith, c.count-bits.ensures.0, c.if-out-needed.false))
 
-same-length-2 : tie.Need-same-length-2
+same-length-2 : tie.Need-shape_of-out
 same-length-2 c = search rules
 
-returns-4 : tie.Need-returns-4
+returns-4 : tie.Need-returns
 returns-4 c =
-    let write = c.before.before.write2 in
-    let roomy = c.before.before.before.before in
-    let counted = roomy.before in
-    let e = counted.before.before.before in
-    let a = e.before.before.before.before.args in
-    written-done (encode_alpha a.kind a.samples.now) a.out.now counted.count.ensures.0 roomy.if3.false write.ensures.0 write.ensures.1
-    ∙ fits e
+    let write = c.write-written in
+    let a = c.args in
+    written-done (encode_alpha a.kind a.samples.now) a.out.now c.count-bits.ensures.0 c.if-out-needed.false write.ensures.0 write.ensures.1
+    ∙ fits c.before.before.before.before.before.before.before.before
 
-pub encode-tested-spec : {M : Type 1} → statement M
-encode-tested-spec =
+pub encode_tested_spec : {M : Type 1} → statement M
+encode_tested_spec =
     tie.close
     (tie.spec
     out-of-range-requires

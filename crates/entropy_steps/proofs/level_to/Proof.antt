@@ -1,5 +1,4 @@
 -- `entropy_steps::level_to` meets its contract.
--- Assumes nothing.
 use Prim.Native.Nat.{◌+◌}
 use mathlib.Core.Path.{sym, ap, ap₂, ◌∙◌}
 use mir.Syntax.{w32}
@@ -14,38 +13,42 @@ use borrow.Author.Rules.{rules}
 use Rattle.entropy_steps.proofs.level_to.Statement.{statement}
 use Rattle.entropy_steps.proofs.level_to.Tie as tie
 
-enum_told : tie.Need-enum-told
+enum_told : tie.Need-enum_told-1
 enum_told c = search rules
 
-enum-known-level : tie.Need-enum-known-level
+enum-known-level : tie.Need-enum_known-level
 enum-known-level c = search rules
 
-level-codebook-requires : tie.Need-level-codebook-requires
+level-codebook-requires : tie.Need-level_codebook-levels-requires
 level-codebook-requires c κs = search rules
 
-add-place : tie.Need-overflow-add-place
+add-place : tie.Need-overflow_add-place
 add-place c = search rules
 
-fits : (c : tie.After-known-told) → SFits w32 c.before.level.given.0.0
+fits : (c : tie.In-Is) → SFits w32 c.in-Is.v
 fits c = search rules
 
-returns : tie.Need-returns
+returns : tie.Need-returns-in-Out
 unfolding level_step_of
 returns c =
-    let a = c.before.before.args in
-    sym (ap (λ (l : Level). level_step_of l a.s a.symbol a.at) c.enum_told.given.1)
+    let a = c.args in
+    sym (ap (λ (l : Level). level_step_of l a.s a.symbol a.at) c.in-Out.is)
 
-returns-2 : tie.Need-returns-2
+returns-2 : tie.Need-returns-in-Is
 unfolding level_step_of
 returns-2 c =
-    let k = c.before in
-    let l = k.before.before in
-    let a = l.before.before.args in
-    ap₂ (λ (x : ℤ) (book : Codebook). To x (record { at = a.at; place = a.s.place + 1; runs = a.s.runs; levels = book })) (to_z-of_z (fits k.before))
-    k.level-codebook.ensures
-    ∙ sym (ap (λ (x : Level). level_step_of x a.s a.symbol a.at) l.level.given.1)
+    let a = c.args in
+    ap₂ (λ (x : ℤ) (book : Codebook). To x (record { at = a.at; place = a.s.place + 1; runs = a.s.runs; levels = book })) (to_z-of_z (fits c.before.before))
+    c.level_codebook-levels.ensures
+    ∙ sym (ap (λ (x : Level). level_step_of x a.s a.symbol a.at) c.in-Is.is)
 
-pub level-to-spec : {M : Type 1} → statement M
-level-to-spec =
+pub level_to_spec : {M : Type 1} → statement M
+level_to_spec =
     tie.close
-    (tie.spec enum_told enum-known-level level-codebook-requires add-place returns returns-2)
+    (tie.spec
+    enum_told
+    enum-known-level
+    level-codebook-requires
+    add-place
+    returns
+    returns-2)

@@ -58,8 +58,7 @@ mul-dc c = search rules
 
 slice-set-from-dc : tie.Need-bounds-out-n invariant-loop decreases-loop
 slice-set-from-dc c =
-    let in-loop = c.before.before.before in
-    omega (arith, in-loop.before.loop.invariant.here.zeros.long, in-loop.loop-test.true)
+    omega (arith, c.loop-n.invariant.here.zeros.long, c.loop-n-test.true)
 
 add-n : tie.Need-overflow_add-n invariant-loop decreases-loop
 add-n c = search rules

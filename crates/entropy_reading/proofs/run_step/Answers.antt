@@ -12,8 +12,8 @@ pub returns-in-No : goal.returns-in-No
 returns-in-No c =
     let a = c.args in
     let s = a.s in
-    unread a.payload.now s.at c.read-read.result c.requires.0 s.runs c.read-read.ensures (λ c. run_state a.total s) (λ c. refl)
-    (λ c. run-due (bits_of a.payload.now) a.total s c.requires.1) c.in-No.why c.in-No.is
+    unread a.payload.now s.at c.read-read.result c.requires.0 s.runs c.read-read.ensures (λ _. run_state a.total s) (λ _. refl)
+    (λ _. run-due (bits_of a.payload.now) a.total s c.requires.1) c.in-No.why c.in-No.is
 
 pub returns-in-Value : goal.returns-in-Value
 returns-in-Value c =

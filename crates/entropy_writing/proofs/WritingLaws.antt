@@ -49,7 +49,7 @@ abbrev read : ℤ → ℤ
 read z = to_z w32 (of_z w32 z)
 
 read_is : (z : ℤ) → nat_abs z ≤ 2 * most → read z ≡ z
-read_is z h = to_z-of_z (sfits-nat_abs z (omega arith))
+read_is z h = to_z-of_z {w = w32} (sfits-nat_abs z (omega arith))
 
 module _ (c dc : ℤ) (hc : nat_abs c ≤ most) (hd : nat_abs dc ≤ most) where
   pub diff-le : nat_abs (c -ℤ dc) ≤ 2 * most

@@ -1,5 +1,4 @@
 -- `entropy::encode_tested` meets its contract, case by case.
--- Assumes nothing.
 use mathlib.Core.Path.{sym, ◌∙◌}
 use native.Mathlib.Omega.{arith}
 use borrow.Author.Rules.{rules}
@@ -10,76 +9,69 @@ use Rattle.entropy.proofs.EncodeLaws.{writing-out, writing-room, writing-done}
 use Rattle.entropy.proofs.encode_tested.Statement.{statement}
 use Rattle.entropy.proofs.encode_tested.Tie as tie
 
-out-of-range-requires : tie.Need-out-of-range-requires
+out-of-range-requires : tie.Need-out_of_range-requires
 out-of-range-requires c κs = search rules
 
-returns : tie.Need-returns
+returns : tie.Need-returns-then-out_of_range
 returns c =
-    let a = c.before.before.before.args in
-    sym (writing-out a.coeffs.now a.blocks a.out.now (not-true (in_range a.coeffs.now) (sym c.before.out_of_range.ensures ∙ c.if1.true)))
+    let a = c.args in
+    sym (writing-out a.coeffs.now a.blocks a.out.now (not-true (in_range a.coeffs.now) (sym c.out_of_range.ensures ∙ c.if-out_of_range.true)))
 
-fine : (c : tie.Else1) → Encodable c.before.before.before.args.blocks c.before.before.before.args.coeffs.now
+fine : (c : tie.Else-out_of_range) → Encodable c.args.blocks c.args.coeffs.now
 fine c =
-    let start = c.before.before.before in
     record {
-      few = start.requires.0;
-      full = start.requires.1;
-      small = not-false (in_range start.args.coeffs.now) (sym c.before.out_of_range.ensures ∙ c.if1.false);
+      few = c.requires.0;
+      full = c.requires.1;
+      small = not-false (in_range c.args.coeffs.now) (sym c.out_of_range.ensures ∙ c.if-out_of_range.false);
     }
 
 -- ---- a buffer with room for any list
 
-mul-if2 : tie.Need-overflow-mul-if2
+mul-if2 : tie.Need-overflow_mul-blocks
 mul-if2 c = search rules
 
-write-requires : tie.Need-write-requires
-write-requires c κs = let e = c.before.before in (fine e, omega (arith, encode-le (fine e), c.before.if2.true))
+write-requires : tie.Need-write-done-requires
+write-requires c κs = (fine c.before.before, omega (arith, encode-le (fine c.before.before), c.if-blocks-out.true))
 
-add-bytes : tie.Need-overflow-add-bytes
+add-bytes : tie.Need-overflow_add-bytes
 add-bytes c =
-    let e = c.before.before.before.before.before in
-    omega (arith, c.before.before.write.ensures.0, encode-le (fine e), (fine e).few)
+    omega (arith, c.write-done.ensures.0, encode-le (fine c.before.before.before.before.before), (fine c.before.before.before.before.before).few)
 
-same_length : tie.Need-same-length
+same_length : tie.Need-shape_of-out-then-blocks-out
 same_length c = search rules
 
-returns-2 : tie.Need-returns-2
+returns-2 : tie.Need-returns-then-blocks-out
 returns-2 c =
-    let write = c.before.before.write in
-    let roomy = c.before.before.before.before in
-    let e = roomy.before in
-    writing-done e.before.before.before.args.out.now (fine e) write.ensures.0
-    (omega (arith, write.ensures.0, encode-le (fine e), roomy.if2.true)) write.ensures.0 write.ensures.1
+    let write = c.write-done in
+    writing-done c.args.out.now (fine c.before.before.before.before.before) write.ensures.0
+    (omega (arith, write.ensures.0, encode-le (fine c.before.before.before.before.before), c.if-blocks-out.true)) write.ensures.0 write.ensures.1
 
 -- ---- any other buffer
 
-count-requires : tie.Need-count-requires
+count-requires : tie.Need-count-bits-requires
 count-requires c κs = fine c.before
 
-add-needed : tie.Need-overflow-add-needed
+add-needed : tie.Need-overflow_add-needed
 add-needed c = search rules
 
-returns-3 : tie.Need-returns-3
+returns-3 : tie.Need-returns-then-out-needed
 returns-3 c =
-    let e = c.before.before.before in
-    writing-room e.before.before.before.args.out.now (fine e) c.before.count.ensures.0 c.if3.true
+    writing-room c.args.out.now (fine c.before.before.before) c.count-bits.ensures.0 c.if-out-needed.true
 
-write-requires-2 : tie.Need-write-requires-2
-write-requires-2 c κs = (fine c.before.before.before.before, omega (arith, c.before.before.count.ensures.0, c.before.if3.false))
+write-requires-2 : tie.Need-write-written-requires
+write-requires-2 c κs = (fine c.before.before.before.before, omega (arith, c.count-bits.ensures.0, c.if-out-needed.false))
 
-same-length-2 : tie.Need-same-length-2
+same-length-2 : tie.Need-shape_of-out
 same-length-2 c = search rules
 
-returns-4 : tie.Need-returns-4
+returns-4 : tie.Need-returns
 returns-4 c =
-    let write = c.before.before.write2 in
-    let counted = c.before.before.before.before.before in
-    let e = counted.before.before in
-    writing-done e.before.before.before.args.out.now (fine e) counted.count.ensures.0 c.before.before.before.before.if3.false
+    let write = c.write-written in
+    writing-done c.args.out.now (fine c.before.before.before.before.before.before.before) c.count-bits.ensures.0 c.if-out-needed.false
     write.ensures.0 write.ensures.1
 
-pub encode-tested-spec : {M : Type 1} → statement M
-encode-tested-spec =
+pub encode_tested_spec : {M : Type 1} → statement M
+encode_tested_spec =
     tie.close
     (tie.spec
     out-of-range-requires

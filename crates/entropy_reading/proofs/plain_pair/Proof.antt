@@ -1,5 +1,4 @@
 -- `entropy_reading::plain_pair` meets its contract.
--- Assumes nothing.
 use native.Mathlib.Omega.{arith}
 use mathlib.Core.Path.{subst}
 use Rattle.bitstream.specs.Bits.{bits_of}
@@ -11,47 +10,38 @@ use borrow.Author.Rules.{rules}
 use Rattle.entropy_reading.proofs.plain_pair.Statement.{statement}
 use Rattle.entropy_reading.proofs.plain_pair.Tie as tie
 
-run-step-requires : tie.Need-run-step-requires
+run-step-requires : tie.Need-run_step-run-requires
 run-step-requires c κs = search rules
 
-enum-known-run : tie.Need-enum-known-run
+enum-known-run : tie.Need-enum_known-run
 enum-known-run c = search rules
 
-enum-known-run-2 : tie.Need-enum-known-run-2
+enum-known-run-2 : tie.Need-enum_known-run-in-To-1
 enum-known-run-2 c = search rules
 
 -- where the run led
-led : (c : tie.After-run2) → let start = c.before.before.before.before in
-    RunStepped (bits_of start.args.payload.now) start.args.total start.args.s (To c.run2.given.0.0)
+led : (c : tie.In-To) → RunStepped (bits_of c.args.payload.now) c.args.total c.args.s (To c.in-To.next)
 led c =
-    let b = c.before.before in
-    let start = b.before.before in
-    subst (λ (x : RunStep). RunStepped (bits_of start.args.payload.now) start.args.total start.args.s x) c.run2.given.1 b.run_step.ensures
+    subst (λ (x : RunStep). RunStepped (bits_of c.args.payload.now) c.args.total c.args.s x) c.in-To.is c.run_step-run.ensures
 
-level-step-requires : tie.Need-level-step-requires
+level-step-requires : tie.Need-level_step-requires
 level-step-requires c κs =
-    let start = c.before.before.before.before.before in
-    let k = (led c.before).keeps in
-    (record { fits = start.requires.0.fits; within = k.within }, omega (arith, k.room, start.requires.2), k.books.runs)
+    let k = (led c).keeps in
+    (record { fits = c.requires.0.fits; within = k.within }, omega (arith, k.room, c.requires.2), k.books.runs)
 
-returns : tie.Need-returns
+returns : tie.Need-returns-in-No
 returns c =
-    let b = c.before.before.before in
-    let start = b.before.before in
-    let p = start.args.payload.now in
-    let g = c.before.run.given in
-    pair-no (bits_of p) start.args.total start.args.s g.0.0
-    (subst (λ (x : RunStep). RunStepped (bits_of p) start.args.total start.args.s x) g.1 b.run_step.ensures)
+    let p = c.args.payload.now in
+    pair-no (bits_of p) c.args.total c.args.s c.in-No.why
+    (subst (λ (x : RunStep). RunStepped (bits_of p) c.args.total c.args.s x) c.in-No.is c.run_step-run.ensures)
 
-returns-2 : tie.Need-returns-2
+returns-2 : tie.Need-returns-in-To
 returns-2 c =
-    let b = c.before.before.before.before in
-    let start = b.before.before in
-    pair-on (bits_of start.args.payload.now) start.args.total start.args.s c.before.before.run2.given.0.0 (led c.before.before)
-    c.level-step.result c.level-step.ensures
+    pair-on (bits_of c.args.payload.now) c.args.total c.args.s c.in-To.next (led c.before)
+    c.level_step.result c.level_step.ensures
 
-pub plain-pair-spec : {M : Type 1} → statement M
-plain-pair-spec =
+pub plain_pair_spec : {M : Type 1} → statement M
+plain_pair_spec =
     tie.close
     (tie.spec
     run-step-requires

@@ -30,7 +30,7 @@ put_pair-requires c =
 pub returns : goal.returns
 returns c =
     let put = c.put_pair in
-    subst (λ (l : List Bool). Puts c.args.out.now c.args.at l put.new.0 put.result)
+    subst (λ (l : List Bool). Puts c.args.out.now c.args.at l put.new.out put.result)
     (ac-words c.args.s (to_z-of_z c.ranges.c) (omega (arith, c.if-magnitude-eq0.false, c.magnitude.ensures))
     c.run_word.ensures c.level_word.ensures)
     put.ensures

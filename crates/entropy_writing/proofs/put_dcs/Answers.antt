@@ -25,7 +25,7 @@ loop-n-init c =
       omega (arith, pre.1),
       subst DcFits (sym first) (first_fits _ (at_small pre.0 0)),
       refl,
-      omega (arith, c.put_word-at.ensures.0, encode-length-first pre.0 pre.1 first c.first_word-w.ensures),
+      omega (arith, c.put_word-at.ensures.next, encode-length-first pre.0 pre.1 first c.first_word-w.ensures),
       doing-start _ _ _,
     )
 
@@ -59,8 +59,8 @@ loop-n-preserved c =
       omega (arith, h),
       subst DcFits (sym after) (dc-fits l.s _ (at_small f l.n)),
       omega (arith, l.invariant.2, put.auto),
-      omega (arith, l.invariant.3, put.ensures.0, dcs-length f l.n l.s h after w),
-      doing-more l.invariant.4 (dcs-next f l.n l.s h after) (puts_word w put.ensures.0 put.ensures.1),
+      omega (arith, l.invariant.3, put.ensures.next, dcs-length f l.n l.s h after w),
+      doing-more l.invariant.4 (dcs-next f l.n l.s h after) (puts_word w put.ensures.next put.ensures.buffer),
     )
 
 pub returns : goal.returns
@@ -68,5 +68,5 @@ returns c =
     let l = c.loop-n in
     let put = c.put_word-at in
     doing-after (encode-first c.requires.0 c.requires.1 c.first_dcs-s.ensures)
-    (puts_word c.first_word-w.ensures put.ensures.0 put.ensures.1)
+    (puts_word c.first_word-w.ensures put.ensures.next put.ensures.buffer)
     (doing-at l.invariant.4 (dcs-end c.args.blocks l.s c.args.coeffs.now l.n (omega (arith, l.invariant.0, c.loop-n-test.false))))

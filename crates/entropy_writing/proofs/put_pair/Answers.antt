@@ -21,8 +21,8 @@ pub returns-then-len-le56 : goal.returns-then-len-le56
 returns-then-len-le56 c =
     let a = c.args in
     let put = c.put in
-    puts-pair c.requires.0 c.requires.1 put.ensures.0
-    (put.ensures.1
+    puts-pair c.requires.0 c.requires.1 put.ensures.next
+    (put.ensures.buffer
     ∙ ap (λ (k : ℕ). put_at a.out.now a.at (field (a.run.len + a.level.len) (a.run.bits * k + a.level.bits)))
     c.pow2.ensures)
 
@@ -30,4 +30,4 @@ pub returns : goal.returns
 returns c =
     let one = c.put_word-mid in
     let two = c.put_word in
-    puts_then (puts_word c.requires.0 one.ensures.0 one.ensures.1) (puts_word c.requires.1 two.ensures.0 two.ensures.1)
+    puts_then (puts_word c.requires.0 one.ensures.next one.ensures.buffer) (puts_word c.requires.1 two.ensures.next two.ensures.buffer)

@@ -15,7 +15,7 @@ pub returns-then-blocks-eq0 : goal.returns-then-blocks-eq0
 returns-then-blocks-eq0 c =
     let a = c.args in
     let none = encode-none a.coeffs.now c.if-blocks-eq0.true in
-    (sym (ap length none), sym (ap (stored a.out.now) none ∙ stored-none a.out.now))
+    record { count = sym (ap length none); buffer = sym (ap (stored a.out.now) none ∙ stored-none a.out.now) }
 
 pub put_acs-requires : goal.put_acs-requires
 put_acs-requires c =
@@ -29,4 +29,4 @@ returns c =
     let old = c.args.out.now in
     let puts = doing-last (doing-more c.put_dcs-at.ensures (sym (append-nil _)) c.put_acs.ensures) refl in
     let held = puts.held old [] (held_none old) in
-    (sym held.count, held.is)
+    record { count = sym held.count; buffer = held.is }

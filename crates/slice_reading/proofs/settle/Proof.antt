@@ -1,5 +1,4 @@
 -- `slice_reading::settle` meets its contract.
--- Assumes nothing.
 use mathlib.Core.Path.{◌≡◌, refl, sym, ap, ◌∙◌}
 use mathlib.Core.Bool.{Bool, false, cond}
 use mathlib.Core.List.{List, [], ◌∷◌}
@@ -34,30 +33,37 @@ other (Y r) k = refl
 other (Cb r) k = refl
 other (Cr r) k = refl
 
-enum_told : tie.Need-enum-told
+enum_told : tie.Need-enum_told-1
 enum_told c = search rules
 
-place-components-requires : tie.Need-place-components-requires
+place-components-requires : tie.Need-place_components-requires
 place-components-requires c κs = search rules
 
-same_length : tie.Need-same-length
+same_length : tie.Need-shape_of-blocks-in-Done
 same_length c = search rules
 
-returns : tie.Need-returns
+returns : tie.Need-returns-in-Done
 returns c =
-    let t = c.before.before.before in
-    c.before.place-components.ensures ∙ sym (ap (λ (d : DecodedSlice). left t.before.before (all_read (told_decoded_slice d))) t.enum_told.given.1)
+    c.place_components.ensures ∙ sym (ap (λ (d : DecodedSlice). left c.before.before.before.before (all_read (told_decoded_slice d))) c.in-Done.is)
 
 zero-requires : tie.Need-zero-requires
 zero-requires c κs = search rules
 
-same-length-2 : tie.Need-same-length-2
+same-length-2 : tie.Need-shape_of-blocks
 same-length-2 c = search rules
 
-returns-2 : tie.Need-returns-2
+returns-2 : tie.Need-returns
 returns-2 c =
-    let m = c.before.before.before in
-    c.before.zero.ensures ∙ ap nil m.before.requires.long-out ∙ sym (ap (left m.before) (other m.before.args.joined m.match.keys2))
+    c.zero.ensures ∙ ap nil c.requires.long-out ∙ sym (ap (left c.before.before.before.before) (other c.args.joined c.in_default.in_default-own.keys2))
 
-pub settle-spec : {M : Type 1} → statement M
-settle-spec = tie.close (tie.spec enum_told place-components-requires same_length returns zero-requires same-length-2 returns-2)
+pub settle_spec : {M : Type 1} → statement M
+settle_spec =
+    tie.close
+    (tie.spec
+    enum_told
+    place-components-requires
+    same_length
+    returns
+    zero-requires
+    same-length-2
+    returns-2)

@@ -25,7 +25,7 @@ returns : tie.Need-returns-in-2-to-3
 returns c =
     let a = c.args in
     let n = blocks_per (chroma_blocks a.chroma) in
-    ap (λ (k : ℕ). counts (blocks_per k)) c.chroma_blocks.ensures ∙ counted-known a.chroma n (chroma-known a.chroma c.if-chroma-lt2.false (omega arith))
+    ap (λ (k : ℕ). counts (blocks_per k)) c.chroma_blocks.ensures ∙ counted-known a.chroma n (chroma-known a.chroma (omega arith) (omega arith))
 
 returns-2 : tie.Need-returns-in_default
 returns-2 c = let a = c.args in counted-unknown a.chroma (blocks_per (chroma_blocks a.chroma)) (chroma-unknown a.chroma (λ h l. omega arith))

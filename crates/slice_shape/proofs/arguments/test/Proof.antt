@@ -1,6 +1,6 @@
 -- `slice_shape::arguments::test` meets its contract, case by case.
-use mathlib.Core.Path.{◌≡◌, sym}
-use mathlib.Core.Bool.{true, ◌&&◌}
+use mathlib.Core.Path.{◌≡◌, sym, ap}
+use mathlib.Core.Bool.{true, not, ◌&&◌}
 use native.Mathlib.Nat.{mul-le-mul}
 use native.Mathlib.Omega.{arith}
 use borrow.Author.Rules.{rules}
@@ -15,22 +15,22 @@ known-requires : tie.Need-known-requires
 known-requires c κs = search rules
 
 returns : tie.Need-returns-then-not-known
-returns c = let a = c.args in sym (arguments-unknown a.each a.y a.cb a.cr a.macroblocks a.chroma a.scan a.list (off c.if-not-known.true c.known.ensures))
+returns c = let a = c.args in sym (arguments-unknown a.each a.y a.cb a.cr a.macroblocks a.chroma a.scan a.list (off (ap not c.if-not-known.true) c.known.ensures))
 
 in-limits-requires : tie.Need-in_limits-requires
 in-limits-requires c κs = search rules
 
 -- the tests that were passed
 known_of : (c : tie.Else-not-known) → let a = c.args in known_chroma a.chroma && known_scan a.scan ≡ true
-known_of c = on c.if-not-known.false c.known.ensures
+known_of c = on (ap not c.if-not-known.false) c.known.ensures
 
 limits_of : (c : tie.Else-not-in_limits) → let a = c.args in in_limit a.macroblocks && payloads_fit a.y a.cb a.cr ≡ true
-limits_of c = on c.if-not-in_limits.false c.in_limits.ensures
+limits_of c = on (ap not c.if-not-in_limits.false) c.in_limits.ensures
 
 returns-2 : tie.Need-returns-then-not-in_limits
 returns-2 c =
     let a = c.args in
-    sym (arguments-limit a.each a.y a.cb a.cr a.macroblocks a.chroma a.scan a.list (known_of c.before.before) (off c.if-not-in_limits.true c.in_limits.ensures))
+    sym (arguments-limit a.each a.y a.cb a.cr a.macroblocks a.chroma a.scan a.list (known_of c.before.before) (off (ap not c.if-not-in_limits.true) c.in_limits.ensures))
 
 chroma-blocks-requires : tie.Need-chroma_blocks-c-requires
 chroma-blocks-requires c κs = search rules

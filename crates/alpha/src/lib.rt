@@ -1,4 +1,6 @@
 // The alpha coder: document 01, section Alpha; alpha.rs.
+#![tactic(auto)]
+
 ghost use Rattle.std.specs.Prelude.{◌≡◌, ◌≤◌, length};
 ghost use Rattle.answers.specs.Answers.{decoding, encoding};
 ghost use Rattle.answers.specs.Told.{told_decoded, told_encoded};

@@ -1,5 +1,7 @@
 // What alpha samples are coded as: the definitions and their laws are in specs/ and proofs/, and here are the kinds and the leaves that reading and
 // writing share.
+#![tactic(auto)]
+
 ghost use Rattle.std.specs.Prelude.{◌≡◌};
 ghost use Rattle.alpha_elements.specs.Kinds.{width_of, small_width_of, limit_of, mask_of, most_bits_of, code_of, told_kind, kind_of};
 

@@ -1,5 +1,7 @@
 // Reading alpha samples, an element at a time: the reading half of alpha.rs. A difference gives a sample and a run how often it stands; one loop reads
 // them in turn, and a refusal goes up as it is.
+#![tactic(auto)]
+
 ghost use Rattle.std.specs.Prelude.{◌≡◌, ◌+◌, ◌≤◌, ◌<◌, length, replicate, drop};
 ghost use Rattle.answers.specs.Told.{reached_says};
 ghost use Rattle.bitstream.specs.Bits.{bits_of};

@@ -1,4 +1,6 @@
 // Writing alpha samples: the writing half of alpha.rs. Counting and writing are two passes, which make their words by the same function.
+#![tactic(auto)]
+
 ghost use Rattle.std.specs.Prelude.{◌≡◌, true, not, ◌+◌, ◌*◌, ◌≤◌, ◌<◌, length};
 ghost use Rattle.bitstream.specs.Bits.{field};
 ghost use Rattle.bitstream.specs.Bytes.{stored};

@@ -1,5 +1,7 @@
 // What every coder says: why a call is refused, where a reading stands, and how a coder answers. The definitions that all of them are held to are in
 // specs/: document 01's numbers, and the reader of elements.
+#![tactic(auto)]
+
 ghost use Rattle.std.specs.Prelude.{◌≡◌};
 ghost use Rattle.answers.specs.Refusals.{number_of};
 

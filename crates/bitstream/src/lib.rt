@@ -1,5 +1,7 @@
 // The bit layer: document 01, section Bits, and the limit on a payload. Reading goes by a slice and a Cursor by value, as the Rust's BitReader
 // does by itself; writing is in bitstream_writer.
+#![tactic(auto)]
+
 ghost use Rattle.std.specs.Prelude.{◌≡◌, ◌≤◌, length, drop};
 ghost use Rattle.bitstream.specs.Bits.{bits_of, ended};
 ghost use Rattle.bitstream.specs.Reading.{read_bits, zero_prefix};

@@ -1,4 +1,6 @@
 // The writing half of the bit layer: document 01, section Bits. Writing goes into a lent buffer at a bit position.
+#![tactic(auto)]
+
 ghost use Rattle.std.specs.Prelude.{◌≡◌, ◌+◌, ◌*◌, ◌^◌, ◌≤◌, ◌<◌, length};
 ghost use Rattle.bitstream.specs.Bits.{field};
 ghost use Rattle.bitstream.specs.Bytes.{put_at, bytes_for};

@@ -1,4 +1,6 @@
 // Answers as numbers, for a caller in C: 0 for done or document 01's refusal number, and what comes back beside it, which is 0 where there is none.
+#![tactic(auto)]
+
 ghost use Rattle.std.specs.Prelude.{◌≡◌};
 ghost use Rattle.answers.specs.Told.{told_decoded, told_encoded};
 ghost use Rattle.cart_numbers.specs.Numbers.{decode_numbers, encode_numbers};

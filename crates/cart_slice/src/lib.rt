@@ -1,4 +1,6 @@
 // Slices whose blocks are bytes, for a caller in C.
+#![tactic(auto)]
+
 ghost use Rattle.std.specs.Prelude.{◌≡◌, length};
 ghost use Rattle.answers.specs.Answers.{fit, encoding};
 ghost use Rattle.cart_bytes.specs.Bytes.{ints_of};

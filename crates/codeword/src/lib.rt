@@ -1,4 +1,6 @@
 // Codewords: document 01, section Codewords; the first half of entropy.rs.
+#![tactic(auto)]
+
 ghost use Rattle.std.specs.Prelude.{◌≡◌};
 ghost use Rattle.bitstream.specs.Told.{told_read, outcome_at};
 ghost use Rattle.codeword.specs.Codewords.{code, read_code};

@@ -1,4 +1,6 @@
 // Which codebook comes next: RDD 36's Tables 9 to 11. There are ten in all.
+#![tactic(auto)]
+
 ghost use Rattle.std.specs.Prelude.{◌≡◌};
 ghost use Rattle.codeword_books.specs.Books.{first_book, dc_book, run_book, level_book};
 

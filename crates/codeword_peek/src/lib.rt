@@ -1,5 +1,7 @@
 // A codeword at the top of a word: how long it is and its symbol, without a branch on the codebook. The plain reader, `Codebook::read`, has the
 // codewords that are too long for that, and a payload's last bytes.
+#![tactic(auto)]
+
 ghost use Rattle.std.specs.Prelude.{◌≡◌, ◌+◌, ◌-◌, ◌^◌, ◌<◌, ◌≤◌, if◌then◌else◌};
 ghost use Rattle.bitstream.specs.Told.{InPayload, told_read, outcome_at};
 ghost use Rattle.codeword.specs.Codewords.{width, base, read_code};

@@ -1,4 +1,6 @@
 // Signs: S(n) and its inverse, and the negation of a DC difference. S is a bijection of i32 and u32, so both mappings take every number.
+#![tactic(auto)]
+
 ghost use Rattle.std.specs.Prelude.{◌≡◌, ◌<◌, nat_abs};
 ghost use Rattle.codeword_signs.specs.Signs.{is_negative, symbol_of, integer_of, turned};
 

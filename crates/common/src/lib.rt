@@ -1,4 +1,6 @@
 // What no other crate owns: a power of two, and in proofs/ laws on numbers, lists and ℤ.
+#![tactic(auto)]
+
 ghost use Rattle.std.specs.Prelude.{◌≡◌, ◌^◌, ◌<◌};
 
 // 2 to the k.

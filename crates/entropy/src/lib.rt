@@ -1,4 +1,6 @@
 // The scanned coefficient coder: document 01; the second half of entropy.rs.
+#![tactic(auto)]
+
 ghost use Rattle.std.specs.Prelude.{◌≡◌, ◌*◌, ◌≤◌, length};
 ghost use Rattle.answers.specs.Answers.{decoding, encoding};
 ghost use Rattle.answers.specs.Told.{told_decoded, told_encoded};

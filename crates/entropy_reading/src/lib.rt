@@ -1,5 +1,7 @@
 // Reading scanned coefficients, an element at a time: the reading half of entropy.rs. One loop reads the DCs and one the runs and levels; where each
 // element leads is in entropy_steps, and a refusal goes up as it is.
+#![tactic(auto)]
+
 ghost use Rattle.std.specs.Prelude.{◌≡◌, true, false, ◌*◌, ◌≤◌, ◌<◌, nat_abs, pos, length};
 ghost use Rattle.bitstream.specs.Bits.{bits_of};
 ghost use Rattle.bitstream.specs.Told.{payload_limit, InPayload};

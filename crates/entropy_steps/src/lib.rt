@@ -1,5 +1,7 @@
 // The transitions of the coefficient coder: where a DC, a run and a level lead. They take what was read, a value and the bit behind it, and know
 // nothing of how it was read, so that every reader can stand on them.
+#![tactic(auto)]
+
 ghost use Rattle.std.specs.Prelude.{◌≡◌, ◌≤◌, ◌<◌};
 ghost use Rattle.entropy_elements.specs.Limits.{list_limit};
 ghost use Rattle.entropy_steps.specs.DcSteps.{dc_step_of};

@@ -1,4 +1,6 @@
 // Writing scanned coefficients: the writing half of entropy.rs. Counting and writing are two passes, which make their words by the same functions.
+#![tactic(auto)]
+
 ghost use Rattle.std.specs.Prelude.{◌≡◌, [], ◌∷◌, ◌++◌, ◌+◌, ◌-◌, ◌*◌, ◌^◌, ◌≤◌, ◌<◌, nat_abs, length, drop};
 ghost use Rattle.bitstream.specs.Bits.{field};
 ghost use Rattle.bitstream.specs.Bytes.{stored};

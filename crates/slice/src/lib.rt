@@ -1,4 +1,6 @@
 // Slices: document 01, section Slice scan; slice.rs. Three components, each coded by itself, and every block in its place.
+#![tactic(auto)]
+
 ghost use Rattle.std.specs.Prelude.{◌≡◌};
 ghost use Rattle.answers.specs.Answers.{encoding};
 ghost use Rattle.slice_shape.specs.Encoding.{encode_slice_of};

@@ -1,5 +1,7 @@
 // Three payloads into one list of blocks: each is read by itself into a list of its own, the three readings are joined, and then the blocks are placed, or
 // all zero where a component is refused.
+#![tactic(auto)]
+
 ghost use Rattle.std.specs.Prelude.{◌≡◌, cond, ◌*◌, ◌≤◌, pos, length, take};
 ghost use Rattle.answers.specs.Told.{reached_says};
 ghost use Rattle.bitstream.specs.Told.{payload_limit};

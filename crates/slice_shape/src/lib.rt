@@ -1,5 +1,7 @@
 // What a slice is: document 01, section Slice scan; slice.rs. The definitions are in specs/; here are the answers of the slice coder, how much a slice
 // has at the most, and the test of arguments that encoding and decoding share.
+#![tactic(auto)]
+
 ghost use Rattle.std.specs.Prelude.{◌≡◌};
 ghost use Rattle.slice_shape.specs.Shapes.{chroma_blocks, chroma_blocks_of, blocks_of};
 ghost use Rattle.slice_shape.specs.Told.{told_blocks};

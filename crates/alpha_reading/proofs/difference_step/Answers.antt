@@ -1,7 +1,6 @@
 -- `alpha_reading::difference_step` meets its contract.
 use Rattle.bitstream.proofs.AnswerLaws.{bit-placed}
 use Rattle.alpha_reading.proofs.StepAnswers.{difference-stepped-no, difference-escaped, difference-small}
-use borrow.Author.Rules.{rules}
 use Rattle.alpha_reading.proofs.difference_step.Goals as goal
 
 pub escaped_step-requires : goal.escaped_step-requires

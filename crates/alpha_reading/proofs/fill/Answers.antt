@@ -1,7 +1,4 @@
-use Prim.Native.Nat.{◌-◌}
-use borrow.Author.Rules.{rules}
-use lib.ListN.{length}
-use Rattle.common.proofs.Fills.{Filled, fill_none, fill_more, fill-all}
+use Rattle.common.proofs.Fills.{fill_none, fill_more, fill-all}
 use Rattle.alpha_reading.proofs.fill.Goals as goal
 
 pub loop-i-init : goal.loop-i-init

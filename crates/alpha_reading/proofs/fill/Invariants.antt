@@ -1,8 +1,7 @@
 -- `alpha_reading::fill` meets its contract. The invariant: the first i places hold v, and the others what they held.
 use Prim.Native.Nat.{◌-◌}
-use borrow.Author.Rules.{rules}
 use lib.ListN.{length}
-use Rattle.common.proofs.Fills.{Filled, fill_none, fill_more, fill-all}
+use Rattle.common.proofs.Fills.{Filled}
 use Rattle.alpha_reading.proofs.fill.Given as goal
 
 abbrev pub invariant-loop-i : goal.invariant-loop-i

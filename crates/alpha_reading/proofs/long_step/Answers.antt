@@ -7,7 +7,6 @@ use Rattle.alpha_elements.proofs.StepLaws.{long_to-run}
 use Rattle.alpha_reading.specs.Steps.{long_due, AlphaRunStepped}
 use Rattle.alpha_reading.specs.declared.AlphaRunStep.{AlphaRunStep}
 use Rattle.alpha_reading.proofs.StepAnswers.{run-field-no, long-low, run-field-on}
-use borrow.Author.Rules.{rules}
 use Rattle.alpha_reading.proofs.long_step.Goals as goal
 
 pub returns-then-value-lt16 : goal.returns-then-value-lt16

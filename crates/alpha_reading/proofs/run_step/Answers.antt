@@ -5,7 +5,6 @@ use Rattle.bitstream.proofs.AnswerLaws.{bit-placed}
 use Rattle.alpha_reading.specs.Steps.{run_due, AlphaRunStepped}
 use Rattle.alpha_reading.specs.declared.AlphaRunStep.{AlphaRunStep}
 use Rattle.alpha_reading.proofs.StepAnswers.{run-stepped-no, run-one, run_short}
-use borrow.Author.Rules.{rules}
 use Rattle.alpha_reading.proofs.run_step.Goals as goal
 
 pub returns-then-value-eq1 : goal.returns-then-value-eq1

@@ -8,7 +8,6 @@ use Rattle.alpha_elements.proofs.StepLaws.{short_to-run}
 use Rattle.alpha_reading.specs.Steps.{short_due, AlphaRunStepped}
 use Rattle.alpha_reading.specs.declared.AlphaRunStep.{AlphaRunStep}
 use Rattle.alpha_reading.proofs.StepAnswers.{run-field-no, short-long, run-field-on}
-use borrow.Author.Rules.{rules}
 use Rattle.alpha_reading.proofs.short_step.Goals as goal
 
 pub long_step-requires : goal.long_step-requires

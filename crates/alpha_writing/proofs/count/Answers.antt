@@ -1,12 +1,7 @@
-use mathlib.Core.Path.{◌≡◌, ap}
-use Prim.Native.Nat.{◌+◌, ◌-◌, ◌≤◌}
+use mathlib.Core.Path.{ap}
 use native.Mathlib.Omega.{arith}
-use borrow.Author.Rules.{rules}
-use lib.ListN.{length, drop}
-use Rattle.alpha_elements.specs.Kinds.{mask_of}
-use Rattle.alpha_elements.specs.Elements.{encode_alpha}
+use lib.ListN.{length}
 use Rattle.alpha_elements.proofs.SizeLaws.{encode-most}
-use Rattle.alpha_writing.specs.Writing.{code_from}
 use Rattle.alpha_writing.proofs.WritingLaws.{start-zero, code-start, code-end, pair-length}
 use Rattle.alpha_writing.proofs.count.Goals as goal
 

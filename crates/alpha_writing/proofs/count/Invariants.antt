@@ -1,14 +1,10 @@
 -- `alpha_writing::count` meets its contract. The invariant: the bits counted and those to come are the whole code's.
-use mathlib.Core.Path.{◌≡◌, ap}
+use mathlib.Core.Path.{◌≡◌}
 use Prim.Native.Nat.{◌+◌, ◌-◌, ◌≤◌}
-use native.Mathlib.Omega.{arith}
-use borrow.Author.Rules.{rules}
 use lib.ListN.{length, drop}
 use Rattle.alpha_elements.specs.Kinds.{mask_of}
 use Rattle.alpha_elements.specs.Elements.{encode_alpha}
-use Rattle.alpha_elements.proofs.SizeLaws.{encode-most}
 use Rattle.alpha_writing.specs.Writing.{code_from}
-use Rattle.alpha_writing.proofs.WritingLaws.{start-zero, code-start, code-end, pair-length}
 use Rattle.alpha_writing.proofs.count.Given as goal
 
 abbrev pub invariant-loop-i : goal.invariant-loop-i

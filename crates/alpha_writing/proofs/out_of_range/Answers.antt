@@ -1,12 +1,9 @@
-use mathlib.Core.Path.{◌≡◌, refl, sym, ap, ◌∙◌}
+use mathlib.Core.Path.{refl, sym, ap, ◌∙◌}
 use mathlib.Core.Bool.{not, ◌||◌}
-use Prim.Native.Nat.{ℕ, ◌+◌, ◌-◌}
+use Prim.Native.Nat.{ℕ, ◌+◌}
 use native.Mathlib.Omega.{arith}
-use borrow.Author.Rules.{rules}
 use lib.Dec.{ltb}
-use lib.ListN.{length, drop}
-use Rattle.alpha_elements.specs.declared.AlphaChannelType.{AlphaChannelType}
-use Rattle.alpha_elements.specs.Kinds.{mask_of}
+use lib.ListN.{drop}
 use Rattle.alpha_elements.specs.Limits.{samples_in_range}
 use Rattle.alpha_writing.proofs.RangeLaws.{range-more, range_all}
 use Rattle.alpha_writing.proofs.out_of_range.Goals as goal

@@ -1,15 +1,11 @@
 -- `alpha_writing::out_of_range` meets its contract. The invariant: what was found up to i, and the samples from i on, decide it.
-use mathlib.Core.Path.{◌≡◌, refl, sym, ap, ◌∙◌}
+use mathlib.Core.Path.{◌≡◌}
 use mathlib.Core.Bool.{not, ◌||◌}
-use Prim.Native.Nat.{ℕ, ◌+◌, ◌-◌}
-use native.Mathlib.Omega.{arith}
-use borrow.Author.Rules.{rules}
-use lib.Dec.{ltb}
+use Prim.Native.Nat.{◌-◌}
 use lib.ListN.{length, drop}
 use Rattle.alpha_elements.specs.declared.AlphaChannelType.{AlphaChannelType}
 use Rattle.alpha_elements.specs.Kinds.{mask_of}
 use Rattle.alpha_elements.specs.Limits.{samples_in_range}
-use Rattle.alpha_writing.proofs.RangeLaws.{range-more, range_all}
 use Rattle.alpha_writing.proofs.out_of_range.Given as goal
 
 abbrev pub invariant-loop-i : goal.invariant-loop-i

@@ -2,7 +2,6 @@
 use mathlib.Core.Path.{ap, ◌∙◌}
 use Prim.Native.Nat.{ℕ, ◌+◌, ◌*◌}
 use native.Mathlib.Omega.{arith}
-use borrow.Author.Rules.{rules}
 use Rattle.bitstream.specs.Bits.{field}
 use Rattle.alpha_writing.proofs.WritingLaws.{run_short, pair-short, pair_fits, pair_is}
 use Rattle.alpha_writing.proofs.pair_word.Goals as goal

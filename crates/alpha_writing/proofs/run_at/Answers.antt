@@ -1,10 +1,8 @@
 use mathlib.Core.Path.{◌≡◌, subst}
-use Prim.Native.Nat.{◌-◌, ◌≤◌, ◌<◌}
 use native.Mathlib.Omega.{arith}
-use borrow.Author.Rules.{rules}
 use lib.ListN.{length}
 use Rattle.alpha_writing.specs.Writing.{RunStop}
-use Rattle.alpha_writing.proofs.RunLaws.{Along, along-start, along-next, along-other, along-stop}
+use Rattle.alpha_writing.proofs.RunLaws.{along-start, along-next, along-other, along-stop}
 use Rattle.alpha_writing.proofs.run_at.Goals as goal
 
 pub loop-e-init : goal.loop-e-init

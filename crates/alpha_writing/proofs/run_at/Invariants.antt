@@ -1,11 +1,6 @@
 -- `alpha_writing::run_at` meets its contract. The invariant: the samples from i up to e are one run so far.
-use mathlib.Core.Path.{◌≡◌, subst}
 use Prim.Native.Nat.{◌-◌, ◌≤◌, ◌<◌}
-use native.Mathlib.Omega.{arith}
-use borrow.Author.Rules.{rules}
-use lib.ListN.{length}
-use Rattle.alpha_writing.specs.Writing.{RunStop}
-use Rattle.alpha_writing.proofs.RunLaws.{Along, along-start, along-next, along-other, along-stop}
+use Rattle.alpha_writing.proofs.RunLaws.{Along}
 use Rattle.alpha_writing.proofs.run_at.Given as goal
 
 abbrev pub invariant-loop-e : goal.invariant-loop-e

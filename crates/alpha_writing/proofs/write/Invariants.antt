@@ -1,19 +1,11 @@
 -- `alpha_writing::write` meets its contract. The invariant: the code is being written, and what is to come is that from sample i on.
-use mathlib.Core.Path.{◌≡◌, refl, sym}
-use mathlib.Core.List.{[]}
+use mathlib.Core.Path.{◌≡◌}
 use Prim.Native.Nat.{◌+◌, ◌-◌, ◌≤◌}
-use native.Mathlib.Omega.{arith}
-use borrow.Author.Rules.{rules}
 use lib.ListN.{length, drop}
 use Rattle.bitstream.specs.Puts.{Doing}
-use Rattle.bitstream.proofs.FieldLaws.{length-field}
-use Rattle.bitstream.proofs.PutLaws.{held_none, puts-at}
-use Rattle.bitstream.proofs.DoingLaws.{doing-start, doing-more, doing-at, doing-last, doing-room}
 use Rattle.alpha_elements.specs.Kinds.{mask_of}
 use Rattle.alpha_elements.specs.Elements.{encode_alpha}
-use Rattle.alpha_elements.proofs.SizeLaws.{encode-most}
 use Rattle.alpha_writing.specs.Writing.{code_from}
-use Rattle.alpha_writing.proofs.WritingLaws.{start-zero, code-start, code-end, pair-length}
 use Rattle.alpha_writing.proofs.write.Given as goal
 
 abbrev pub invariant-loop-i : goal.invariant-loop-i

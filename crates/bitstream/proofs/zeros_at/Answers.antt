@@ -1,10 +1,8 @@
-use mathlib.Core.Path.{◌≡◌, sym, ◌∙◌}
-use Prim.Native.Nat.{◌-◌, ◌≤◌}
+use mathlib.Core.Path.{sym, ◌∙◌}
 use native.Mathlib.Omega.{arith}
-use lib.ListN.{length}
 use Rattle.bitstream.specs.Bits.{bits_of}
 use Rattle.bitstream.proofs.BitsLaws.{length-bits}
-use Rattle.bitstream.proofs.ReadLaws.{Passed, passed_none, passed-one, passed-full, passed-end, passed-more}
+use Rattle.bitstream.proofs.ReadLaws.{passed_none, passed-one, passed-full, passed-end, passed-more}
 use Rattle.bitstream.proofs.zeros_at.Goals as goal
 
 pub overflow_mul-end : goal.overflow_mul-end

@@ -1,11 +1,9 @@
 -- `bitstream::zeros_at` meets its contract. The invariant: the bits from p up to bit at are zeros that were passed.
-use mathlib.Core.Path.{◌≡◌, sym, ◌∙◌}
+use mathlib.Core.Path.{◌≡◌}
 use Prim.Native.Nat.{◌-◌, ◌≤◌}
-use native.Mathlib.Omega.{arith}
 use lib.ListN.{length}
 use Rattle.bitstream.specs.Bits.{bits_of}
-use Rattle.bitstream.proofs.BitsLaws.{length-bits}
-use Rattle.bitstream.proofs.ReadLaws.{Passed, passed_none, passed-one, passed-full, passed-end, passed-more}
+use Rattle.bitstream.proofs.ReadLaws.{Passed}
 use Rattle.bitstream.proofs.zeros_at.Given as goal
 
 abbrev pub invariant-loop-at : goal.invariant-loop-at

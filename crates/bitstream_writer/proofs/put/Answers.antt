@@ -1,9 +1,8 @@
 -- `bitstream_writer::put` meets its contract: the bits begun and the field are one word, which goes in from the byte begun on.
-use mathlib.Core.Path.{refl, sym, ◌∙◌}
+use mathlib.Core.Path.{sym, ◌∙◌}
 use native.Mathlib.Omega.{arith}
 use lib.Pow.{pow_pos}
 use Rattle.bitstream.proofs.PutLaws.{word_lt, put_word}
-use borrow.Author.Rules.{rules}
 use Rattle.bitstream_writer.proofs.put.Goals as goal
 
 pub overflow_mul-word : goal.overflow_mul-word

@@ -5,7 +5,6 @@ use Rattle.answers.specs.Answers.{refuse}
 use Rattle.answers.specs.Told.{told_decoded}
 use Rattle.answers.specs.declared.Decoded.{Decoded}
 use Rattle.cart_numbers.specs.Numbers.{decode_numbers}
-use borrow.Author.Rules.{rules}
 use Rattle.cart_numbers.proofs.decode_numbers.Goals as goal
 
 pub returns-in-Done : goal.returns-in-Done

@@ -5,7 +5,6 @@ use Rattle.answers.specs.Answers.{declines}
 use Rattle.answers.specs.Told.{told_encoded}
 use Rattle.answers.specs.declared.Encoded.{Encoded}
 use Rattle.cart_numbers.specs.Numbers.{encode_numbers}
-use borrow.Author.Rules.{rules}
 use Rattle.cart_numbers.proofs.encode_numbers.Goals as goal
 
 pub returns-in-Done : goal.returns-in-Done

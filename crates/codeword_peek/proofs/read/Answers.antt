@@ -1,5 +1,5 @@
 -- `codeword_peek::read` meets its contract.
-use Rattle.std.proofs.Common.{drop, sym, ap, ◌∙◌, subst, arith, rules}
+use Rattle.std.proofs.Common.{drop, sym, ap, ◌∙◌, subst, arith}
 use Rattle.bitstream.specs.Bits.{bits_of}
 use Rattle.bitstream.proofs.AnswerLaws.{told-taken}
 use Rattle.bitstream.specs.Windows.{word_at, shown}

@@ -7,7 +7,6 @@ use Rattle.answers.specs.Answers.{refuse, decoding}
 use Rattle.answers.specs.Told.{reached_says}
 use Rattle.answers.specs.declared.Reached.{Reached}
 use Rattle.entropy_elements.specs.Decoding.{nil}
-use borrow.Author.Rules.{rules}
 use Rattle.entropy.proofs.decode_tested.Goals as goal
 
 pub read_all-reached-requires : goal.read_all-reached-requires

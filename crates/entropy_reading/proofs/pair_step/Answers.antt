@@ -1,5 +1,4 @@
 -- `entropy_reading::pair_step` meets its contract.
-use borrow.Author.Rules.{rules}
 use Rattle.entropy_reading.proofs.pair_step.Goals as goal
 
 pub shown_pair-requires : goal.shown_pair-requires

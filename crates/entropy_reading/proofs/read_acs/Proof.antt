@@ -53,12 +53,11 @@ returns c =
     acs-ended c.loop-s.invariant (sym c.end_of_data.ensures ∙ c.if-end_of_data.true)
 
 pair-step-requires : tie.Need-pair_step-got-requires invariant-loop decreases-loop
-pair-step-requires c κs =
-    (
-      record { fits = c.requires.0; within = c.loop-s.invariant.here.stands.within },
-      record { room = c.loop-s-test.true; more = sym c.end_of_data.ensures ∙ c.if-end_of_data.false; books = c.loop-s.invariant.books },
-      omega (arith, c.requires.1),
-    )
+pair-step-requires c κs = (
+  record { fits = c.requires.0; within = c.loop-s.invariant.here.stands.within },
+  record { room = c.loop-s-test.true; more = sym c.end_of_data.ensures ∙ c.if-end_of_data.false; books = c.loop-s.invariant.books },
+  omega (arith, c.requires.1),
+)
 
 -- what the pair's step answered
 paired : (c : tie.After-pair_step-got invariant-loop decreases-loop) (x : LevelStep) → c.pair_step-got.result ≡ x → let a = c.args in

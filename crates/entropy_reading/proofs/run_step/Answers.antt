@@ -5,7 +5,6 @@ use Rattle.entropy_steps.specs.RunSteps.{run_state, RunStepped}
 use Rattle.entropy_steps.specs.declared.RunStep.{RunStep}
 use Rattle.entropy_steps.proofs.RunLaws.{run-due, run-stepped}
 use Rattle.entropy_reading.proofs.ReadAnswers.{read-gives, unread}
-use borrow.Author.Rules.{rules}
 use Rattle.entropy_reading.proofs.run_step.Goals as goal
 
 pub returns-in-No : goal.returns-in-No

@@ -9,7 +9,6 @@ use Rattle.entropy_steps.specs.LevelSteps.{level_step_of}
 use Rattle.entropy_steps.specs.PairSteps.{PairStepped}
 use Rattle.entropy_steps.specs.declared.LevelStep.{LevelStep}
 use Rattle.entropy_reading.proofs.ShownLaws.{shown-far, shown-room, shown-on}
-use borrow.Author.Rules.{rules}
 use Rattle.entropy_reading.proofs.shown_pair.Goals as goal
 
 pub overflow_add-mid : goal.overflow_add-mid

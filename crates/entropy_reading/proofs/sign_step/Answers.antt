@@ -7,7 +7,6 @@ use Rattle.entropy_steps.specs.LevelSteps.{level_step_of, sign_due, LevelStepped
 use Rattle.entropy_steps.specs.declared.LevelStep.{LevelStep}
 use Rattle.entropy_steps.proofs.LevelLaws.{sign-stepped}
 use Rattle.entropy_reading.proofs.ReadAnswers.{has-bit, no_sign}
-use borrow.Author.Rules.{rules}
 use Rattle.entropy_reading.proofs.sign_step.Goals as goal
 
 pub returns-in-No : goal.returns-in-No

@@ -6,7 +6,6 @@ use Rattle.codeword.specs.declared.Codebook.{Codebook}
 use Rattle.entropy_steps.specs.declared.RunStep.{RunStep}
 use Rattle.entropy_steps.specs.declared.RunStep.TheVariants.{To}
 use Rattle.entropy_steps.proofs.RunLaws.{run_step_of-far, run_step_of-near}
-use borrow.Author.Rules.{rules}
 use Rattle.entropy_steps.proofs.run_to.Goals as goal
 
 pub returns-then-total-s : goal.returns-then-total-s

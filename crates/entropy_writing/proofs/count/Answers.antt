@@ -1,7 +1,6 @@
 -- `entropy_writing::count` meets its contract: the DCs, and then what is left.
 use mathlib.Core.Path.{sym, ap}
 use native.Mathlib.Omega.{arith}
-use borrow.Author.Rules.{rules}
 use lib.ListN.{length}
 use Rattle.entropy_writing.proofs.WritingLaws.{encode-none, encode-le}
 use Rattle.entropy_writing.proofs.count.Goals as goal

@@ -1,7 +1,6 @@
 -- `entropy_writing::count_ac` meets its contract.
 use mathlib.Core.Path.{sym, ap, ◌∙◌}
 use native.Mathlib.Omega.{arith}
-use borrow.Author.Rules.{rules}
 use lib.IntN.{nat_abs}
 use lib.ListN.{length}
 use mir.Facts.{to_z-of_z}

@@ -1,9 +1,8 @@
-use mathlib.Core.Path.{◌≡◌, refl, sym, ap, subst}
-use Prim.Native.Nat.{◌+◌, ◌-◌, ◌≤◌}
+use mathlib.Core.Path.{refl, sym, ap, subst}
+use Prim.Native.Nat.{◌+◌}
 use native.Mathlib.Omega.{arith}
-use borrow.Author.Rules.{rules}
 use lib.ListN.{length, drop}
-use Rattle.entropy_writing.specs.Writing.{AcFits, first_acs, acs_code}
+use Rattle.entropy_writing.specs.Writing.{AcFits, acs_code}
 use Rattle.entropy_writing.specs.declared.WriterAcs.{WriterAcs}
 use Rattle.entropy_writing.proofs.WritingLaws.{at, acs-length, acs-end, ac-first-fits, ac-fits}
 use Rattle.entropy_writing.proofs.count_acs.Goals as goal

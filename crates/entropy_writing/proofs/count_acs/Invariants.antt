@@ -1,12 +1,8 @@
 -- `entropy_writing::count_acs` meets its contract. The invariant: the bits counted and those to come make the sum.
-use mathlib.Core.Path.{◌≡◌, refl, sym, ap, subst}
+use mathlib.Core.Path.{◌≡◌}
 use Prim.Native.Nat.{◌+◌, ◌-◌, ◌≤◌}
-use native.Mathlib.Omega.{arith}
-use borrow.Author.Rules.{rules}
 use lib.ListN.{length, drop}
 use Rattle.entropy_writing.specs.Writing.{AcFits, first_acs, acs_code}
-use Rattle.entropy_writing.specs.declared.WriterAcs.{WriterAcs}
-use Rattle.entropy_writing.proofs.WritingLaws.{at, acs-length, acs-end, ac-first-fits, ac-fits}
 use Rattle.entropy_writing.proofs.count_acs.Given as goal
 
 abbrev pub invariant-loop-n : goal.invariant-loop-n

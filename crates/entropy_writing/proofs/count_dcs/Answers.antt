@@ -1,10 +1,7 @@
-use mathlib.Core.Path.{◌≡◌, refl, sym, ap, subst}
-use Prim.Native.Nat.{◌+◌, ◌-◌, ◌≤◌}
+use mathlib.Core.Path.{refl, sym, ap, subst}
 use native.Mathlib.Omega.{arith}
-use borrow.Author.Rules.{rules}
-use lib.ListN.{length, drop}
-use Rattle.entropy_elements.specs.Elements.{encode}
-use Rattle.entropy_writing.specs.Writing.{DcFits, dcs_code}
+use lib.ListN.{length}
+use Rattle.entropy_writing.specs.Writing.{DcFits}
 use Rattle.entropy_writing.proofs.WritingLaws.{encode-le, at_small, encode-length-first, dcs-length, dcs-end, first_fits, dc-fits}
 use Rattle.entropy_writing.proofs.count_dcs.Goals as goal
 

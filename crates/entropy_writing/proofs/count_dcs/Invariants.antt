@@ -1,12 +1,9 @@
 -- `entropy_writing::count_dcs` meets its contract. The invariant: the bits counted and those to come are the whole code's.
-use mathlib.Core.Path.{◌≡◌, refl, sym, ap, subst}
+use mathlib.Core.Path.{◌≡◌}
 use Prim.Native.Nat.{◌+◌, ◌-◌, ◌≤◌}
-use native.Mathlib.Omega.{arith}
-use borrow.Author.Rules.{rules}
 use lib.ListN.{length, drop}
 use Rattle.entropy_elements.specs.Elements.{encode}
 use Rattle.entropy_writing.specs.Writing.{DcFits, dcs_code}
-use Rattle.entropy_writing.proofs.WritingLaws.{encode-le, at_small, encode-length-first, dcs-length, dcs-end, first_fits, dc-fits}
 use Rattle.entropy_writing.proofs.count_dcs.Given as goal
 
 abbrev pub invariant-loop-n : goal.invariant-loop-n

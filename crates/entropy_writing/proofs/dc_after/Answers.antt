@@ -1,6 +1,5 @@
 -- `entropy_writing::dc_after` meets its contract.
 use mathlib.Core.Path.{ap, ◌∙◌}
-use borrow.Author.Rules.{rules}
 use lib.IntN.{nat_abs}
 use mir.Facts.{to_z-of_z}
 use Rattle.codeword_books.specs.Books.{dc_book}

@@ -1,5 +1,4 @@
 -- `entropy_writing::first_acs` meets its contract.
-use borrow.Author.Rules.{rules}
 use Rattle.entropy_writing.specs.Writing.{first_acs}
 use Rattle.entropy_writing.proofs.first_acs.Goals as goal
 

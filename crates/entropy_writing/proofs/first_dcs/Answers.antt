@@ -1,5 +1,4 @@
 -- `entropy_writing::first_dcs` meets its contract.
-use borrow.Author.Rules.{rules}
 use mir.Facts.{to_z-of_z}
 use Rattle.entropy_writing.specs.Writing.{first_dcs}
 use Rattle.entropy_writing.proofs.first_dcs.Goals as goal

@@ -1,6 +1,5 @@
 -- `entropy_writing::first_word` meets its contract.
 use mathlib.Core.Path.{sym, ap, ap₂, ◌∙◌, subst}
-use borrow.Author.Rules.{rules}
 use mir.Facts.{to_z-of_z}
 use Rattle.codeword.specs.Codewords.{code}
 use Rattle.codeword.specs.Words.{InUse}

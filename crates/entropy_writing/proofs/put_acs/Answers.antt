@@ -1,11 +1,10 @@
-use mathlib.Core.Path.{◌≡◌, refl, sym, ap, subst}
-use Prim.Native.Nat.{◌+◌, ◌-◌, ◌≤◌}
+use mathlib.Core.Path.{refl, sym, ap, subst}
+use Prim.Native.Nat.{◌+◌}
 use native.Mathlib.Omega.{arith}
 use borrow.Author.Rules.{rules}
-use lib.ListN.{length, drop}
-use Rattle.bitstream.specs.Puts.{Doing}
+use lib.ListN.{drop}
 use Rattle.bitstream.proofs.DoingLaws.{doing-start, doing-more, doing-at, doing-last, doing-room}
-use Rattle.entropy_writing.specs.Writing.{AcFits, first_acs, acs_code}
+use Rattle.entropy_writing.specs.Writing.{AcFits, acs_code}
 use Rattle.entropy_writing.specs.declared.WriterAcs.{WriterAcs}
 use Rattle.entropy_writing.proofs.WritingLaws.{at, acs-next, acs-length, acs-end, ac-first-fits, ac-fits}
 use Rattle.entropy_writing.proofs.put_acs.Goals as goal

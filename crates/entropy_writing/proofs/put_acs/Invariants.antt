@@ -1,14 +1,9 @@
 -- `entropy_writing::put_acs` meets its contract. The invariant: the code is being written, and what is to come is that of the state.
-use mathlib.Core.Path.{◌≡◌, refl, sym, ap, subst}
-use Prim.Native.Nat.{◌+◌, ◌-◌, ◌≤◌}
-use native.Mathlib.Omega.{arith}
-use borrow.Author.Rules.{rules}
+use mathlib.Core.Path.{◌≡◌}
+use Prim.Native.Nat.{◌-◌, ◌≤◌}
 use lib.ListN.{length, drop}
 use Rattle.bitstream.specs.Puts.{Doing}
-use Rattle.bitstream.proofs.DoingLaws.{doing-start, doing-more, doing-at, doing-last, doing-room}
 use Rattle.entropy_writing.specs.Writing.{AcFits, first_acs, acs_code}
-use Rattle.entropy_writing.specs.declared.WriterAcs.{WriterAcs}
-use Rattle.entropy_writing.proofs.WritingLaws.{at, acs-next, acs-length, acs-end, ac-first-fits, ac-fits}
 use Rattle.entropy_writing.proofs.put_acs.Given as goal
 
 abbrev pub invariant-loop-n : goal.invariant-loop-n

@@ -1,13 +1,8 @@
-use mathlib.Core.Path.{◌≡◌, refl, sym, subst}
-use Prim.Native.Nat.{◌+◌, ◌-◌, ◌≤◌}
+use mathlib.Core.Path.{refl, sym, subst}
 use native.Mathlib.Omega.{arith}
-use borrow.Author.Rules.{rules}
-use lib.ListN.{length, drop}
-use Rattle.bitstream.specs.Puts.{Doing}
 use Rattle.bitstream.proofs.DoingLaws.{doing-start, doing-more, doing-at, doing-after}
 use Rattle.bitstream_writer.proofs.WordLaws.{puts_word}
-use Rattle.entropy_elements.specs.Elements.{encode}
-use Rattle.entropy_writing.specs.Writing.{DcFits, dcs_code}
+use Rattle.entropy_writing.specs.Writing.{DcFits}
 use Rattle.entropy_writing.proofs.WritingLaws.{encode-le, at_small, encode-first, encode-length-first, dcs-next, dcs-length, dcs-end, first_fits, dc-fits}
 use Rattle.entropy_writing.proofs.put_dcs.Goals as goal
 

@@ -2,7 +2,6 @@
 use mathlib.Core.Path.{ap, ◌∙◌}
 use Prim.Native.Nat.{ℕ, ◌+◌, ◌*◌}
 use native.Mathlib.Omega.{arith}
-use borrow.Author.Rules.{rules}
 use Rattle.bitstream.specs.Bits.{field}
 use Rattle.bitstream.specs.Bytes.{put_at}
 use Rattle.bitstream.proofs.PutLaws.{puts_then}

@@ -1,7 +1,6 @@
 -- `slice_reading::decode_blocks` meets its contract: the chroma format's blocks are found first.
 use Prim.Native.Nat.{ℕ, ◌*◌}
 use mathlib.Core.Path.{ap, ◌∙◌}
-use borrow.Author.Rules.{rules}
 use Rattle.entropy_elements.specs.Answers.{reading_of}
 use Rattle.slice_shape.specs.Shapes.{is_interlaced}
 use Rattle.slice_shape.specs.Decoding.{joined_slice, SliceDecoding}

@@ -1,6 +1,5 @@
 -- `slice_reading::join` meets its contract, case by case.
 use mathlib.Core.Path.{sym}
-use borrow.Author.Rules.{rules}
 use Rattle.slice_reading.proofs.join.Goals as goal
 
 pub returns-in-No : goal.returns-in-No

@@ -1,7 +1,6 @@
 -- `slice_shape::chroma_blocks_per_mb` meets its contract.
 use mathlib.Core.Path.{ap, ◌∙◌}
 use native.Mathlib.Omega.{arith}
-use borrow.Author.Rules.{rules}
 use Rattle.slice_shape.specs.Shapes.{counts, chroma_blocks}
 use Rattle.slice_shape.proofs.ShapeLaws.{chroma-known, chroma-unknown, counted-known, counted-unknown}
 use Rattle.slice_shape.proofs.chroma_blocks_per_mb.Goals as goal

@@ -6,7 +6,6 @@ use mathlib.Core.Path.{sym}
 use Rattle.alpha_elements.specs.Kinds.{mask_of}
 use Rattle.alpha_elements.proofs.KindLaws.{sizes}
 use Rattle.alpha_elements.proofs.ValueLaws.{sample-add}
-use borrow.Author.Rules.{rules}
 use Rattle.alpha_elements.proofs.values.escaped_sample.Goals as goal
 
 pub overflow_add-result : goal.overflow_add-result

@@ -5,7 +5,6 @@ use native.Mathlib.Omega.{arith}
 use Rattle.alpha_elements.specs.Kinds.{limit_of, mask_of}
 use Rattle.alpha_elements.proofs.KindLaws.{sizes}
 use Rattle.alpha_elements.proofs.WordLaws.{up_small, up-far, same, down-small, down-far}
-use borrow.Author.Rules.{rules}
 use Rattle.alpha_elements.proofs.words.difference_word.Goals as goal
 
 pub overflow_add-turn : goal.overflow_add-turn

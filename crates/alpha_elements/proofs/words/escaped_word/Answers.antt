@@ -2,7 +2,6 @@
 use native.Mathlib.Omega.{arith}
 use Rattle.alpha_elements.proofs.KindLaws.{sizes}
 use Rattle.alpha_elements.proofs.WordLaws.{escaped-spells}
-use borrow.Author.Rules.{rules}
 use Rattle.alpha_elements.proofs.words.escaped_word.Goals as goal
 
 pub overflow_add-result : goal.overflow_add-result

@@ -1,7 +1,6 @@
 -- `alpha_elements::words::run_word` meets its contract: zeros in front only widen a field.
 use native.Mathlib.Omega.{arith}
 use Rattle.alpha_elements.proofs.WordLaws.{one-spells, short-spells, long-spells}
-use borrow.Author.Rules.{rules}
 use Rattle.alpha_elements.proofs.words.run_word.Goals as goal
 
 pub returns-then-n-eq1 : goal.returns-then-n-eq1

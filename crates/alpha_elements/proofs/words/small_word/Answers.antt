@@ -4,7 +4,6 @@ use Rattle.bitstream.proofs.FieldLaws.{val-lt}
 use Rattle.bitstream.proofs.PlaceLaws.{byte-val}
 use Rattle.alpha_elements.proofs.KindLaws.{sizes}
 use Rattle.alpha_elements.proofs.WordLaws.{small-spells}
-use borrow.Author.Rules.{rules}
 use Rattle.alpha_elements.proofs.words.small_word.Goals as goal
 
 pub overflow_add-result : goal.overflow_add-result

@@ -1,7 +1,6 @@
 -- `bitstream::Cursor::end_of_data` meets its contract.
 use mathlib.Core.Path.{sym, ◌∙◌}
 use Rattle.bitstream.proofs.PlaceLaws.{word_some}
-use borrow.Author.Rules.{rules}
 use Rattle.bitstream.proofs.Cursor.end_of_data.Goals as goal
 
 pub returns-then-window-ne0 : goal.returns-then-window-ne0

@@ -10,7 +10,6 @@ use Rattle.bitstream.specs.Reading.{read_bits}
 use Rattle.bitstream.specs.Told.{payload_limit, gives, outcome, outcome_at}
 use Rattle.bitstream.proofs.BitsLaws.{length-bits}
 use Rattle.bitstream.proofs.ReadLaws.{read_bits-wide, read_bits-field, read_field-short, read_field-all, outcome_at-fits, outcome_at-long}
-use borrow.Author.Rules.{rules}
 use Rattle.bitstream.proofs.Cursor.read_bits.Goals as goal
 
 -- of a payload that is not too long, the outcome is the reader's

@@ -3,7 +3,6 @@ use mathlib.Core.Path.{sym, ◌∙◌}
 use native.Mathlib.Omega.{arith}
 use Rattle.bitstream.specs.Reading.{zero_prefix}
 use Rattle.bitstream.proofs.ReadLaws.{outcome_at-fits, outcome_at-long}
-use borrow.Author.Rules.{rules}
 use Rattle.bitstream.proofs.Cursor.zero_prefix.Goals as goal
 
 pub returns-then-payload-gt-PAYLOAD_LIMIT : goal.returns-then-payload-gt-PAYLOAD_LIMIT

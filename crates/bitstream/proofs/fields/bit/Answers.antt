@@ -1,5 +1,4 @@
 -- `bitstream::fields::bit` meets its contract.
-use borrow.Author.Rules.{rules}
 use mathlib.Core.Path.{sym, ap, ap₂, ◌∙◌}
 use Prim.Native.Nat.{ℕ, ◌/◌, ◌^◌}
 use native.Mathlib.Omega.{arith}

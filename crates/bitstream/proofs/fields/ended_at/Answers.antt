@@ -8,7 +8,6 @@ use lib.ListN.{drop, get_or}
 use borrow.Author.Tests.{eq-eqb, ne_eqb}
 use Rattle.bitstream.specs.Bits.{bits_of, ended}
 use Rattle.bitstream.proofs.PlaceLaws.{ended_at, ended-past}
-use borrow.Author.Rules.{rules}
 use Rattle.bitstream.proofs.fields.ended_at.Goals as goal
 
 pub returns-then-payload-i : goal.returns-then-payload-i

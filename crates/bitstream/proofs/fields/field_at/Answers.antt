@@ -8,7 +8,6 @@ use Rattle.bitstream.specs.Bits.{bits_of, number}
 use Rattle.bitstream.specs.Windows.{shown, Shows}
 use Rattle.bitstream.proofs.PlaceLaws.{number-take-32, word-shows}
 use Rattle.bitstream.proofs.WindowLaws.{shows-take}
-use borrow.Author.Rules.{rules}
 use Rattle.bitstream.proofs.fields.field_at.Goals as goal
 use Rattle.bitstream.proofs.fields.field_at.Goals.{After-window-w}
 

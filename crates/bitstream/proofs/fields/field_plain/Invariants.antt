@@ -1,16 +1,9 @@
 -- `bitstream::fields::field_plain` meets its contract. The invariant: v is the number of the first i bits.
-use mathlib.Core.Path.{◌≡◌, refl, sym, ap, ◌∙◌, subst}
-use Prim.Native.Nat.{ℕ, ◌+◌, ◌-◌, ◌*◌, ◌^◌, ◌≤◌, ◌<◌}
-use native.Mathlib.Omega.{arith}
-use lib.ListN.{take, drop, length-drop}
+use mathlib.Core.Path.{◌≡◌}
+use Prim.Native.Nat.{ℕ, ◌-◌, ◌^◌, ◌≤◌, ◌<◌}
+use lib.ListN.{take, drop}
 use mathlib.Core.List.{List}
-use mathlib.Core.Bool.{false}
-use native.Mathlib.Nat.{lt_of_lt_of_le}
-use lib.Seq.{get_or-drop}
-use mir.Val.{bool_byte}
 use Rattle.bitstream.specs.Bits.{bits_of, number}
-use Rattle.bitstream.proofs.BitsLaws.{length-bits}
-use Rattle.bitstream.proofs.PlaceLaws.{field-turn, number-take-32}
 use Rattle.bitstream.proofs.fields.field_plain.Given as goal
 
 -- of at most n bits, the first i spell v

@@ -1,5 +1,4 @@
 -- `bitstream::fields::unread` meets its contract.
-use borrow.Author.Rules.{rules}
 use native.Mathlib.Omega.{arith}
 use lib.ListN.{length-drop}
 use Rattle.bitstream.specs.Bits.{bits_of}

@@ -1,8 +1,7 @@
-use mathlib.Core.Path.{◌≡◌, refl, sym, ◌∙◌}
-use Prim.Native.Nat.{◌-◌, ◌<◌}
+use mathlib.Core.Path.{refl, sym, ◌∙◌}
+use Prim.Native.Nat.{◌<◌}
 use native.Mathlib.Omega.{arith}
-use lib.ListN.{length, drop, get_or}
-use Rattle.bitstream.specs.Bits.{bits_of, ended}
+use lib.ListN.{get_or}
 use Rattle.bitstream.proofs.PlaceLaws.{ended_some, ended-none, ended-out}
 use Rattle.bitstream.proofs.fields.zero_from.Goals as goal
 

@@ -1,10 +1,8 @@
 -- `bitstream::fields::zero_from` meets its contract. The invariant: the bytes from j on decide it.
-use mathlib.Core.Path.{◌≡◌, refl, sym, ◌∙◌}
-use Prim.Native.Nat.{◌-◌, ◌<◌}
-use native.Mathlib.Omega.{arith}
-use lib.ListN.{length, drop, get_or}
+use mathlib.Core.Path.{◌≡◌}
+use Prim.Native.Nat.{◌-◌}
+use lib.ListN.{length, drop}
 use Rattle.bitstream.specs.Bits.{bits_of, ended}
-use Rattle.bitstream.proofs.PlaceLaws.{ended_some, ended-none, ended-out}
 use Rattle.bitstream.proofs.fields.zero_from.Given as goal
 
 abbrev pub invariant-loop-j : goal.invariant-loop-j

@@ -1,5 +1,4 @@
 -- `bitstream::windows::load8` meets its contract: each call asks for what the one before gave.
-use borrow.Author.Rules.{rules}
 use mathlib.Core.Path.{refl}
 use native.Mathlib.Omega.{arith}
 use Rattle.bitstream.specs.Bits.{number, bits_of}

@@ -2,7 +2,6 @@
 use mathlib.Core.Path.{ap}
 use Prim.Native.Nat.{ℕ, ◌*◌, ◌%◌, ◌^◌}
 use Rattle.bitstream.specs.Windows.{word_at}
-use borrow.Author.Rules.{rules}
 use Rattle.bitstream.proofs.windows.window.Goals as goal
 
 pub returns : goal.returns

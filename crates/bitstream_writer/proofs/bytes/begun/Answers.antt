@@ -1,7 +1,6 @@
 -- `bitstream_writer::bytes::begun` meets its contract: the bits are the byte's high ones, by a shift, and none at a byte's start.
 use Prim.Native.Nat.{◌/◌}
 use native.Mathlib.Omega.{arith}
-use borrow.Author.Rules.{rules}
 use Rattle.bitstream.proofs.PutLaws.{begun-none, begun-shift}
 use Rattle.bitstream_writer.proofs.bytes.begun.Goals as goal
 

@@ -1,14 +1,10 @@
 -- `bitstream_writer::bytes::emit` meets its contract. The loop's invariant: what is still to be written, written into the buffer as it is, gives the
 -- contract's buffer. The measure is how many bits are left.
-use mathlib.Core.Path.{◌≡◌, refl, sym, ap, ◌∙◌}
-use mathlib.Core.List.{List}
-use Prim.Native.Nat.{ℕ, ◌+◌, ◌-◌, ◌*◌, ◌/◌, ◌%◌, ◌^◌, ◌≤◌}
-use native.Mathlib.Omega.{arith}
-use lib.ListN.{length, set}
+use mathlib.Core.Path.{◌≡◌}
+use Prim.Native.Nat.{◌+◌, ◌*◌, ◌≤◌}
+use lib.ListN.{length}
 use Rattle.bitstream.specs.Bits.{field}
 use Rattle.bitstream.specs.Puts.{stored_from}
-use Rattle.bitstream.proofs.FieldLaws.{field-split}
-use Rattle.bitstream.proofs.PutLaws.{from-none, from_byte, from_last}
 use Rattle.bitstream_writer.proofs.bytes.emit.Given as goal
 
 abbrev pub invariant-loop-left : goal.invariant-loop-left

@@ -6,7 +6,6 @@ use native.Mathlib.Omega.{arith}
 use Rattle.bitstream.specs.Bits.{field}
 use Rattle.bitstream.specs.Bytes.{put_at}
 use Rattle.bitstream_writer.proofs.WordLaws.{put-wide}
-use borrow.Author.Rules.{rules}
 use Rattle.bitstream_writer.proofs.words.put_word.Goals as goal
 
 pub returns-clause-buffer : goal.returns-clause-buffer

@@ -3,7 +3,6 @@ use native.Mathlib.Omega.{arith}
 use Rattle.bitstream.proofs.FieldLaws.{val-lt}
 use Rattle.bitstream.proofs.PlaceLaws.{byte-val}
 use Rattle.bitstream_writer.proofs.WordLaws.{one_more_lem}
-use borrow.Author.Rules.{rules}
 use Rattle.bitstream_writer.proofs.words.with_bit.Goals as goal
 
 pub overflow_add-result-2 : goal.overflow_add-result-2

@@ -3,7 +3,6 @@ use Prim.Native.Nat.{ℕ}
 use mathlib.Core.Path.{ap, ◌∙◌}
 use Rattle.answers.specs.Answers.{Decoding}
 use Rattle.cart_numbers.specs.Numbers.{decode_numbers}
-use borrow.Author.Rules.{rules}
 use Rattle.cart.proofs.alpha_coder.cart_decode_alpha.Goals as goal
 
 pub returns : goal.returns

@@ -2,7 +2,6 @@
 use mathlib.Core.Path.{ap, ◌∙◌}
 use Rattle.answers.specs.Answers.{Encoding, Size}
 use Rattle.cart_numbers.specs.Numbers.{encode_numbers}
-use borrow.Author.Rules.{rules}
 use Rattle.cart.proofs.alpha_coder.cart_encode_alpha.Goals as goal
 
 pub returns : goal.returns

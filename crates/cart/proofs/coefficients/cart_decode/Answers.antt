@@ -3,7 +3,6 @@ use Prim.Native.Nat.{ℕ}
 use mathlib.Core.Path.{ap, ◌∙◌}
 use Rattle.cart_numbers.specs.Numbers.{decode_numbers}
 use Rattle.answers.specs.Answers.{Decoding}
-use borrow.Author.Rules.{rules}
 use Rattle.cart.proofs.coefficients.cart_decode.Goals as goal
 
 pub returns : goal.returns

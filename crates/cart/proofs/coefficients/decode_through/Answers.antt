@@ -4,7 +4,6 @@ use Rattle.answers.specs.Told.{told_decoded}
 use Rattle.answers.specs.Answers.{decoding}
 use Rattle.entropy_elements.proofs.ArgumentLaws.{decode_of-fits}
 use Rattle.cart.specs.Coefficients.{in_bytes}
-use borrow.Author.Rules.{rules}
 use Rattle.cart.proofs.coefficients.decode_through.Goals as goal
 
 pub returns : goal.returns

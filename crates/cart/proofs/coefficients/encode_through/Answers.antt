@@ -7,7 +7,6 @@ use lib.ListN.{length}
 use Rattle.cart_bytes.specs.Bytes.{ints_of}
 use Rattle.entropy_elements.specs.Answers.{encode_of}
 use Rattle.entropy_elements.proofs.ArgumentLaws.{arguments-taken, encode_of-fit}
-use borrow.Author.Rules.{rules}
 use Rattle.cart.proofs.coefficients.encode_through.Goals as goal
 
 pub returns : goal.returns

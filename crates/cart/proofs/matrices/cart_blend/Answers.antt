@@ -1,6 +1,5 @@
 -- `cart::matrices::cart_blend` meets its contract.
 use mathlib.Core.Path.{◌∙◌}
-use borrow.Author.Rules.{rules}
 use Rattle.cart.specs.Matrices.{pair_of}
 use Rattle.cart.proofs.MatrixLaws.{blend-done, blend-refused}
 use Rattle.cart.proofs.matrices.cart_blend.Goals as goal

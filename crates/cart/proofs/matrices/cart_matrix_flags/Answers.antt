@@ -1,6 +1,5 @@
 -- `cart::matrices::cart_matrix_flags` meets its contract.
 use mathlib.Core.Path.{refl, ap, ◌∙◌}
-use borrow.Author.Rules.{rules}
 use Rattle.bitstream.specs.Bits.{val}
 use Rattle.bitstream.proofs.PlaceLaws.{byte-val}
 use Rattle.cart.proofs.matrices.cart_matrix_flags.Goals as goal

@@ -2,7 +2,6 @@
 use mathlib.Core.Path.{ap, ◌∙◌}
 use Rattle.cart_slice.specs.SliceBytes.{SliceBytesDecoding}
 use Rattle.cart_numbers.specs.Slices.{decode_slice_numbers}
-use borrow.Author.Rules.{rules}
 use Rattle.cart.proofs.slices.cart_decode_slice.Goals as goal
 
 pub returns : goal.returns

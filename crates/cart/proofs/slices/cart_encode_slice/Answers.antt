@@ -3,7 +3,6 @@ use mathlib.Core.Path.{ap, ◌∙◌}
 use Rattle.answers.specs.Answers.{Encoding, Size}
 use Rattle.cart_numbers.specs.Slices.{encode_slice_numbers}
 use Rattle.cart_numbers.specs.declared.slices.SliceEncodeNumbers.{SliceEncodeNumbers}
-use borrow.Author.Rules.{rules}
 use Rattle.slice_shape.specs.Shapes.{Components}
 use Rattle.cart.proofs.slices.cart_encode_slice.Goals as goal
 

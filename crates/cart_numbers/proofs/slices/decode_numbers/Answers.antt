@@ -4,7 +4,6 @@ use mathlib.Core.Path.{sym, ap, ◌∙◌}
 use Rattle.slice_shape.specs.Told.{told_decoded_slice}
 use Rattle.slice_shape.specs.declared.DecodedSlice.{DecodedSlice}
 use Rattle.cart_numbers.specs.Slices.{refused_in, decode_slice_numbers}
-use borrow.Author.Rules.{rules}
 use Rattle.cart_numbers.proofs.slices.decode_numbers.Goals as goal
 
 pub returns-in-Done : goal.returns-in-Done

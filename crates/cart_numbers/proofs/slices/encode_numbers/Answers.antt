@@ -4,7 +4,6 @@ use mathlib.Core.Path.{sym, ap, ◌∙◌}
 use Rattle.slice_shape.specs.Told.{told_encoded_slice}
 use Rattle.slice_shape.specs.declared.EncodedSlice.{EncodedSlice}
 use Rattle.cart_numbers.specs.Slices.{no_codes, encode_slice_numbers}
-use borrow.Author.Rules.{rules}
 use Rattle.cart_numbers.proofs.slices.encode_numbers.Goals as goal
 
 pub returns-in-Done : goal.returns-in-Done

@@ -3,7 +3,6 @@ use mathlib.Core.Path.{sym, ap, ◌∙◌}
 use Rattle.bitstream.specs.Told.{outcome_at}
 use Rattle.codeword.specs.Codewords.{read_code}
 use Rattle.codeword.specs.declared.Codebook.{Codebook}
-use borrow.Author.Rules.{rules}
 use Rattle.codeword.proofs.Codebook.read.Goals as goal
 
 pub returns-in-ExpGolomb : goal.returns-in-ExpGolomb

@@ -1,6 +1,5 @@
 -- `codeword::Codebook::word` meets its contract: an arm is a case of code.
 use Rattle.codeword.specs.Codewords.{code}
-use borrow.Author.Rules.{rules}
 use Rattle.codeword.proofs.Codebook.word.Goals as goal
 
 pub exp_golomb_word-requires : goal.exp_golomb_word-requires

@@ -4,7 +4,6 @@ use native.Mathlib.Omega.{arith}
 use Rattle.bitstream.specs.Told.{told_read}
 use Rattle.answers.specs.Refusals.{number_of}
 use Rattle.codeword.proofs.AnswerLaws.{suffix-stop, suffix-small, suffix-large}
-use borrow.Author.Rules.{rules}
 use Rattle.codeword.proofs.read.read_suffix.Goals as goal
 
 pub returns-then-v-lt4294967296 : goal.returns-then-v-lt4294967296

@@ -5,7 +5,6 @@ use native.Mathlib.Omega.{arith}
 use lib.Pow.{pow_pos}
 use Rattle.codeword.specs.Codewords.{exp_length}
 use Rattle.codeword.proofs.WordLaws.{exp-small, exp-order, exp-spells}
-use borrow.Author.Rules.{rules}
 use Rattle.codeword.proofs.words.exp_golomb_word.Goals as goal
 
 pub overflow_add-x : goal.overflow_add-x

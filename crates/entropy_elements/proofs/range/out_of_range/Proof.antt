@@ -3,7 +3,7 @@ use mathlib.Core.Path.{◌≡◌, refl, ap, ◌∙◌}
 use mathlib.Core.Bool.{not, ◌||◌}
 use Prim.Native.Nat.{◌-◌}
 use native.Mathlib.Omega.{arith}
-use borrow.Author.Rules.{rules, sfits_of}
+use borrow.Author.Rules.{rules}
 use lib.IntN.{ℤ, pos, nat_abs}
 use lib.ListN.{length, drop, get_or}
 use mir.Syntax.{w32}

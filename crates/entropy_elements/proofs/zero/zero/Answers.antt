@@ -1,8 +1,5 @@
-use Prim.Native.Nat.{◌-◌}
-use borrow.Author.Rules.{rules}
 use lib.IntN.{pos}
-use lib.ListN.{length}
-use Rattle.common.proofs.Fills.{Filled, fill_none, fill_more, fill-all}
+use Rattle.common.proofs.Fills.{fill_none, fill_more, fill-all}
 use Rattle.entropy_elements.proofs.zero.zero.Goals as goal
 
 pub loop-i-init : goal.loop-i-init

@@ -1,9 +1,8 @@
 -- `entropy_elements::zero::zero` meets its contract. The invariant: the first i elements are 0, and the others what they were.
 use Prim.Native.Nat.{◌-◌}
-use borrow.Author.Rules.{rules}
 use lib.IntN.{pos}
 use lib.ListN.{length}
-use Rattle.common.proofs.Fills.{Filled, fill_none, fill_more, fill-all}
+use Rattle.common.proofs.Fills.{Filled}
 use Rattle.entropy_elements.proofs.zero.zero.Given as goal
 
 abbrev pub invariant-loop-i : goal.invariant-loop-i

@@ -1,4 +1,6 @@
 // One list of blocks into three codes: test the range, scan, see to the room (by counting, where the buffer may be too short), write.
+#![tactic(auto)]
+
 ghost use Rattle.std.specs.Prelude.{◌≡◌, ◌+◌, ◌*◌, ◌≤◌, length, take};
 ghost use Rattle.answers.specs.Answers.{encoding};
 ghost use Rattle.bitstream.specs.Bytes.{bytes_for};

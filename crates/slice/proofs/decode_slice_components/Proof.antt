@@ -1,5 +1,4 @@
 -- `slice::decode_slice_components` meets its contract: its arguments are refused, or taken.
--- Assumes nothing.
 use mathlib.Core.Path.{◌≡◌, sym, ap, ◌∙◌}
 use lib.ListN.{length}
 use borrow.Author.Rules.{rules}
@@ -10,41 +9,47 @@ use Rattle.slice_shape.proofs.ArgumentLaws.{taken_of, decode_slice_of-unfit, dec
 use Rattle.slice.proofs.decode_slice_components.Statement.{statement}
 use Rattle.slice.proofs.decode_slice_components.Tie as tie
 
-test-requires : tie.Need-test-requires
+test-requires : tie.Need-test-tested-requires
 test-requires c κs = search rules
 
-enum-known-tested : tie.Need-enum-known-tested
+enum-known-tested : tie.Need-enum_known-tested
 enum-known-tested c = search rules
 
-enum_told : tie.Need-enum-told
+enum_told : tie.Need-enum_told-1
 enum_told c = search rules
 
-fits : (c : tie.After-enum-told) → let a = c.before.before.before.before.before.before.args in
+fits : (c : tie.In-Taken) → let a = c.args in
     slice_arguments 1 (length a.y.now) (length a.cb.now) (length a.cr.now) a.macroblocks a.chroma a.scan (length a.blocks.now) ≡ fit
-fits c = sym c.before.before.test.ensures ∙ ap told_arguments c.enum_told.given.1
+fits c = sym c.test-tested.ensures ∙ ap told_arguments c.in-Taken.is
 
-decode-blocks-requires : tie.Need-decode-blocks-requires
+decode-blocks-requires : tie.Need-decode_blocks-requires
 decode-blocks-requires c κs =
-    let a = c.before.before.before.before.before.before.before.args in
+    let a = c.args in
     taken_of 1 (length a.y.now) (length a.cb.now) (length a.cr.now) a.macroblocks a.chroma a.scan (length a.blocks.now) (fits c.before)
 
-returns : tie.Need-returns
+returns : tie.Need-returns-in-Refused
 returns c =
-    let t = c.before.before.before in
-    let a = t.before.before.before.before.args in
+    let a = c.args in
     sym (decode_slice_of-unfit a.y.now a.cb.now a.cr.now a.macroblocks a.chroma a.scan a.blocks.now
-    (sym t.test.ensures ∙ ap told_arguments c.before.tested.given.1))
+    (sym c.test-tested.ensures ∙ ap told_arguments c.in-Refused.is))
 
-same_length : tie.Need-same-length
+same_length : tie.Need-shape_of-blocks
 same_length c = search rules
 
-returns-2 : tie.Need-returns-2
+returns-2 : tie.Need-returns-in-Taken
 returns-2 c =
-    let d = c.before in
-    let a = d.before.before.before.before.before.before.before.before.args in
-    d.decode-blocks.ensures
-    ∙ sym (decode_slice_of-fit a.y.now a.cb.now a.cr.now a.macroblocks a.chroma a.scan a.blocks.now (fits d.before.before))
+    let a = c.args in
+    c.decode_blocks.ensures
+    ∙ sym (decode_slice_of-fit a.y.now a.cb.now a.cr.now a.macroblocks a.chroma a.scan a.blocks.now (fits c.before.before.before))
 
-pub decode-slice-components-spec : {M : Type 1} → statement M
-decode-slice-components-spec =
-    tie.close (tie.spec test-requires enum-known-tested enum_told decode-blocks-requires returns same_length returns-2)
+pub decode_slice_components_spec : {M : Type 1} → statement M
+decode_slice_components_spec =
+    tie.close
+    (tie.spec
+    test-requires
+    enum-known-tested
+    enum_told
+    decode-blocks-requires
+    returns
+    same_length
+    returns-2)

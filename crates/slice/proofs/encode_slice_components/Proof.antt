@@ -1,5 +1,4 @@
 -- `slice::encode_slice_components` meets its contract: its arguments are refused, or taken.
--- Assumes nothing.
 use mathlib.Core.Path.{◌≡◌, sym, ap, ◌∙◌}
 use lib.ListN.{length}
 use borrow.Author.Rules.{rules}
@@ -10,38 +9,44 @@ use Rattle.slice_shape.proofs.ArgumentLaws.{taken_of, encode_slice_of-unfit, enc
 use Rattle.slice.proofs.encode_slice_components.Statement.{statement}
 use Rattle.slice.proofs.encode_slice_components.Tie as tie
 
-test-requires : tie.Need-test-requires
+test-requires : tie.Need-test-tested-requires
 test-requires c κs = search rules
 
-enum-known-tested : tie.Need-enum-known-tested
+enum-known-tested : tie.Need-enum_known-tested
 enum-known-tested c = search rules
 
-enum_told : tie.Need-enum-told
+enum_told : tie.Need-enum_told-1
 enum_told c = search rules
 
-fits : (c : tie.After-enum-told) → let a = c.before.before.before.before.args in slice_arguments 1 0 0 0 a.macroblocks a.chroma a.scan (length a.blocks.now) ≡ fit
-fits c = sym c.before.before.test.ensures ∙ ap told_arguments c.enum_told.given.1
+fits : (c : tie.In-Taken) → let a = c.args in slice_arguments 1 0 0 0 a.macroblocks a.chroma a.scan (length a.blocks.now) ≡ fit
+fits c = sym c.test-tested.ensures ∙ ap told_arguments c.in-Taken.is
 
-encode-blocks-requires : tie.Need-encode-blocks-requires
+encode-blocks-requires : tie.Need-encode_blocks-requires
 encode-blocks-requires c κs =
-    let a = c.before.before.before.before.before.args in
+    let a = c.args in
     taken_of 1 0 0 0 a.macroblocks a.chroma a.scan (length a.blocks.now) (fits c.before)
 
-returns : tie.Need-returns
+returns : tie.Need-returns-in-Refused
 returns c =
-    let t = c.before.before.before in
-    let a = t.before.before.args in
-    sym (encode_slice_of-unfit a.blocks.now a.macroblocks a.chroma a.scan a.out.now (sym t.test.ensures ∙ ap told_arguments c.before.tested.given.1))
+    let a = c.args in
+    sym (encode_slice_of-unfit a.blocks.now a.macroblocks a.chroma a.scan a.out.now (sym c.test-tested.ensures ∙ ap told_arguments c.in-Refused.is))
 
-same_length : tie.Need-same-length
+same_length : tie.Need-shape_of-out
 same_length c = search rules
 
-returns-2 : tie.Need-returns-2
+returns-2 : tie.Need-returns-in-Taken
 returns-2 c =
-    let e = c.before.before in
-    let a = e.before.before.before.before.before.before.args in
-    e.encode-blocks.ensures ∙ sym (encode_slice_of-fit a.blocks.now a.macroblocks a.chroma a.scan a.out.now (fits e.before.before))
+    let a = c.args in
+    c.encode_blocks.ensures ∙ sym (encode_slice_of-fit a.blocks.now a.macroblocks a.chroma a.scan a.out.now (fits c.before.before.before.before))
 
-pub encode-slice-components-spec : {M : Type 1} → statement M
-encode-slice-components-spec =
-    tie.close (tie.spec test-requires enum-known-tested enum_told encode-blocks-requires returns same_length returns-2)
+pub encode_slice_components_spec : {M : Type 1} → statement M
+encode_slice_components_spec =
+    tie.close
+    (tie.spec
+    test-requires
+    enum-known-tested
+    enum_told
+    encode-blocks-requires
+    returns
+    same_length
+    returns-2)

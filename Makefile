@@ -80,8 +80,8 @@ compare:
 	target/compare/oracle_check
 	target/compare/driver
 	target/compare/vectors
-	rt check decode
-	target/compare/sample_program tools/run.sh target/bin/decode
+	tools/decode.sh --build
+	target/compare/sample_program tools/run.sh crates/decode/out/decode
 
 # The same with tens of millions of random cases, from another seed.
 compare-long: SEED = 3

@@ -69,13 +69,13 @@ for target in '-W crates.txt lib' check decode prove test more-edits compare com
     expect 'it fails, and begins nothing' [ "$status/$(grep -vc '^make: target/dist has' "$room/out")" = 2/0 ]
 done
 
-# the sample program; first with an rt that proves nothing
+# the sample program; first with an rt that proves nothing, so that the program has to be proved again behind it
 cp crates/decode/stdin "$room/a file"
-printf '#!/bin/sh\necho "rt: common NOT PROVED"\nexit 1\n' >"$room/no-proof"
+printf '#!/bin/sh\necho "fn common::f: not proved" >&2\nexit 1\n' >"$room/no-proof"
 chmod +x "$room/no-proof"
 path=$(path_with "$room/no-proof")
 try tools/decode.sh "$room/a file"
-expect 'it shows what rt said' says 'rt: common NOT PROVED'
+expect 'it shows what rt said' says 'fn common::f: not proved'
 expect 'it says where all of it is' says 'decode: rt ended with status 1; all that it said is in target/decode.log'
 expect 'it gives no answer' [ "$status/$(wc -c <"$room/out")" = 2/0 ]
 try flock target/native/lock timeout 1 tools/decode.sh "$room/a file"
@@ -84,13 +84,14 @@ expect 'it waits for another rt' [ "$status/$(wc -c <"$room/err")" = 124/0 ]
 path=$PATH
 try make -s decode
 expect 'it has a payload of its own' cmp -s "$room/out" crates/decode/stdout
+expect 'a line for each crate that is proved' \
+    [ "$(grep -c '^decode: [a-z0-9_]* is proved$' "$room/err")" -eq "$(wc -l <"$room/err")" ]
+expect 'the last of them is decode' [ "$(tail -n 1 "$room/err")" = 'decode: decode is proved' ]
+expect 'the log has all that rt said' grep -q '^rt: running out/decode;' target/decode.log
 try make -s decode FILE="$room/a file"
 expect 'it prints the answer alone' cmp -s "$room/out" crates/decode/stdout
-expect 'it is done' [ "$status" -eq 0 ]
-expect 'a line for each crate that is proved' \
-    [ "$(grep -c '^rt: [a-z0-9_]* proved (' "$room/err")" -eq "$(wc -l <"$room/err")" ]
-expect 'the last of them is decode' grep -q '^rt: decode proved (' "$room/err"
-expect 'the log has all that rt said' grep -q '^rt: ok, ' target/decode.log
+expect 'it is done, and proves nothing again' \
+    [ "$status/$(cat "$room/err")" = '0/decode: nothing has changed since the last proof' ]
 try make -s decode FILE=- <"$room/a file"
 expect 'it reads standard input' cmp -s "$room/out" crates/decode/stdout
 try make -s decode FILE=/dev/stdin <"$room/a file"

@@ -12,7 +12,7 @@ pub extern "C" fn cart_encode_alpha(
     bits: &mut u64,
 ) -> u32
     ensures buffer { out.new ≡ (encode_alpha_of samples.now kind out.old).buffer }
-    ensures* numbers { λ r. ⌜ record { result = r; bytes = bytes.new; bits = bits.new } ≡ encode_numbers (encode_alpha_of samples.now kind out.old).answer ⌝ }
+    ensures numbers { record { result = result; bytes = bytes.new; bits = bits.new } ≡ encode_numbers (encode_alpha_of samples.now kind out.old).answer }
 {
     let told = cart_numbers::encode_numbers(alpha::encode_scanned_alpha(
         samples,
@@ -32,7 +32,7 @@ pub extern "C" fn cart_decode_alpha(
     bits: &mut u64,
 ) -> u32
     ensures list { samples.new ≡ (decode_alpha_of payload.now kind samples.old).list }
-    ensures* numbers { λ r. ⌜ record { result = r; bits = bits.new } ≡ decode_numbers (decode_alpha_of payload.now kind samples.old).answer ⌝ }
+    ensures numbers { record { result = result; bits = bits.new } ≡ decode_numbers (decode_alpha_of payload.now kind samples.old).answer }
 {
     let told = cart_numbers::decode_numbers(alpha::decode_scanned_alpha(
         payload,

@@ -53,7 +53,7 @@ pub extern "C" fn cart_encode(
     bits: &mut u64,
 ) -> u32
     ensures buffer { out.new ≡ (encode_bytes_of coeffs.now blocks out.old).buffer }
-    ensures* numbers { λ r. ⌜ record { result = r; bytes = bytes.new; bits = bits.new } ≡ encode_numbers (encode_bytes_of coeffs.now blocks out.old).answer ⌝ }
+    ensures numbers { record { result = result; bytes = bytes.new; bits = bits.new } ≡ encode_numbers (encode_bytes_of coeffs.now blocks out.old).answer }
 {
     let told = cart_numbers::encode_numbers(encode_bytes(coeffs, blocks as usize, out));
     *bytes = told.bytes as u64;
@@ -98,7 +98,7 @@ fn decode_bytes(payload: &[u8], blocks: usize, coeffs: &mut [u8]) -> Decoded
 #[unsafe(no_mangle)]
 pub extern "C" fn cart_decode(blocks: u64, payload: &[u8], coeffs: &mut [u8], bits: &mut u64) -> u32
     ensures list { coeffs.new ≡ (decode_bytes_of payload.now blocks coeffs.old).list }
-    ensures* numbers { λ r. ⌜ record { result = r; bits = bits.new } ≡ decode_numbers (decode_bytes_of payload.now blocks coeffs.old).answer ⌝ }
+    ensures numbers { record { result = result; bits = bits.new } ≡ decode_numbers (decode_bytes_of payload.now blocks coeffs.old).answer }
 {
     let got = cart_numbers::decode_numbers(decode_bytes(payload, blocks as usize, coeffs));
     *bits = got.bits as u64;

@@ -1,6 +1,6 @@
 // Weight matrices, and the scale of an index.
 ghost use Rattle.std.specs.Prelude.{◌≡◌};
-ghost use Rattle.quant.specs.Weights.{flat_pair, perceptual_pair, proxy_pair, lt_pair, standard_pair, hq_pair, weights_valid, load_luma, load_chroma, blend_of, qscale_of};
+ghost use Rattle.quant.specs.Weights.{flat_pair, perceptual_pair, proxy_pair, lt_pair, standard_pair, hq_pair, weights_valid, loads_luma, loads_chroma, blend_of, qscale_of};
 ghost use Rattle.bitstream.specs.Bits.{val};
 ghost use Rattle.cart.specs.Matrices.{pair_of, blend_result, blended_pair};
 
@@ -99,8 +99,8 @@ pub extern "C" fn cart_matrix_flags(
 ) -> u32
     ensures result { result ≡ 0 }
     ensures valid { valid.new ≡ val (weights_valid (pair_of luma.now chroma.now)) }
-    ensures luma { load_luma.new ≡ val (load_luma (pair_of luma.now chroma.now)) }
-    ensures chroma { load_chroma.new ≡ val (load_chroma (pair_of luma.now chroma.now)) }
+    ensures luma { load_luma.new ≡ val (loads_luma (pair_of luma.now chroma.now)) }
+    ensures chroma { load_chroma.new ≡ val (loads_chroma (pair_of luma.now chroma.now)) }
 {
     let l = *luma;
     let c = *chroma;

@@ -62,7 +62,7 @@ pub extern "C" fn cart_decode_slice(
     cr_bits: &mut u64,
 ) -> u32
     ensures bytes { blocks.new ≡ (decode_slice_bytes_of y.now cb.now cr.now macroblocks chroma scan blocks.old).bytes }
-    ensures* numbers { λ r. ⌜ record { result = r; component = component.new; y = y_bits.new; cb = cb_bits.new; cr = cr_bits.new } ≡ decode_slice_numbers (decode_slice_bytes_of y.now cb.now cr.now macroblocks chroma scan blocks.old).answer ⌝ }
+    ensures numbers { record { result = result; component = component.new; y = y_bits.new; cb = cb_bits.new; cr = cr_bits.new } ≡ decode_slice_numbers (decode_slice_bytes_of y.now cb.now cr.now macroblocks chroma scan blocks.old).answer }
 {
     let numbers = slices::decode_numbers(cart_slice::decode(
         y,

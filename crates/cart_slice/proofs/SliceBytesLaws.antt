@@ -1,10 +1,12 @@
 -- Laws of `encode_slice_bytes_of` and `decode_slice_bytes_of`, by what their arguments are answered; and of the list of taken bytes.
 -- Assumes nothing.
 use Prim.Native.Nat.{ℕ, ◌*◌, ◌/◌, ◌≤◌}
-use mathlib.Core.Path.{◌≡◌, ap}
-use mathlib.Core.List.{List}
+use mathlib.Core.Path.{◌≡◌, ap, sym, ◌∙◌}
+use mathlib.Core.List.{List, ◌++◌}
 use native.Mathlib.Omega.{arith}
-use lib.ListN.{length}
+use lib.IntN.{ℤ}
+use lib.ListN.{length, take, drop, length-append}
+use lib.Seq.{take_at, length-take-le}
 use Rattle.answers.specs.Answers.{ArgumentsAnswer, fit, unfit, on_arguments, Size, declines, Encoding, encoding}
 use Rattle.cart_bytes.specs.Bytes.{ints_of}
 use Rattle.slice_shape.specs.Shapes.{Components, slice_list}
@@ -55,4 +57,24 @@ listed y cb cr m f s n e =
       all = omega (arith, t.full);
       inside = omega (arith, t.full, few-slice t.few);
       one = arguments-as 4 y cb cr m f s n 1 (n / 4) (omega (arith, t.full)) e;
+    }
+
+-- the front of a longer list is lent for such a list, and comes back as l
+pub record Lent (n : ℕ) (list l : List ℤ) : Type 0 where
+  pub inside : n ≤ length list
+  pub lent : n ≡ length (take n list)
+  pub back : length l ≡ n
+  pub room : n ≤ length (l ++ drop n list)
+  pub front : take n (l ++ drop n list) ≡ l
+
+pub lent_of : (n : ℕ) (list l : List ℤ) → n ≤ slice_list → length list ≡ slice_list → length l ≡ length (take n list) → Lent n list l
+lent_of n list l h z e =
+    let inside : n ≤ length list = omega (arith, h, z) in
+    let back : length l ≡ n = e ∙ length-take-le n list inside in
+    record {
+      inside = inside;
+      lent = sym (length-take-le n list inside);
+      back = back;
+      room = omega (arith, length-append l (drop n list), back);
+      front = take_at l (drop n list) n back;
     }

@@ -1,52 +1,55 @@
 // Document 01's sample program. On standard input: a byte, the number of blocks, and the payload behind it. On standard output: `bits N` and each
-// coefficient in decimal, a line each; or the one line `refused N`.
-ghost use Rattle.std.specs.Prelude.{◌≡◌, ◌≤◌, length};
+// coefficient in decimal, a line each; or the one line `refused N`. Where a read or a write fails, the program ends with that error.
+#![tactic(auto)]
+
+ghost use Rattle.std.specs.Prelude.{◌≡◌, ◌<◌, ◌≤◌, length, take, IfOk};
+ghost use Rattle.std.specs.Io.{ReadsAtMost};
+ghost use Rattle.std.specs.Io.KnownBytes.{Consumes, IsAtEnd};
 ghost use Rattle.entropy_elements.specs.Limits.{list_limit};
 
 use answers::Decoded;
+use bitstream::PAYLOAD_LIMIT;
 use entropy_elements::arguments;
-use libc::{STDIN_FILENO, STDOUT_FILENO};
+use std::io;
+use std::io::Read;
 
-fn put(text: &[u8]) {
-    io::write_all(STDOUT_FILENO, text);
+fn put(rt: &impl Print, text: &str) -> io::Result<()> {
+    rt.print(text)
 }
 
 // A word and a number, a line.
-fn line(word: &[u8], n: u64) {
-    put(word);
-    io::print_decimal(STDOUT_FILENO, n);
-    put(b"\n");
+fn line(rt: &impl Print, word: &str, n: u64) -> io::Result<()> {
+    println!(rt; "{word}{n}")
 }
 
-fn coefficient(value: i32) {
+fn coefficient(rt: &impl Print, value: i32) -> io::Result<()> {
     if value < 0 {
-        put(b"-");
+        put(rt, "-")?;
     }
-    line(b"", codeword_signs::magnitude(value) as u64);
+    line(rt, "", u64::from(codeword_signs::magnitude(value)))
 }
 
-fn coefficients(list: &[i32]) {
-    let mut i: usize = 0;
-    while i < list.len() {
-        coefficient(list[i]);
-        i += 1;
+fn coefficients(rt: &impl Print, list: &[i32]) -> io::Result<()> {
+    for value in list {
+        coefficient(rt, *value)?;
     }
+    Ok(())
 }
 
-fn tell(decoded: Decoded, list: &[i32]) {
+fn tell(rt: &impl Print, decoded: Decoded, list: &[i32]) -> io::Result<()> {
     match decoded {
         Decoded::Done { bits } => {
-            line(b"bits ", bits as u64);
-            coefficients(list);
+            line(rt, "bits ", bits as u64)?;
+            coefficients(rt, list)
         }
-        Decoded::Refused(why) => line(b"refused ", why.number() as u64),
+        Decoded::Refused(why) => line(rt, "refused ", u64::from(why.number())),
     }
 }
 
 // The payload into a list of 64 x blocks.
-fn decode_list(payload: &[u8], blocks: usize, list: &mut [i32]) {
+fn decode_list(rt: &impl Print, payload: &[u8], blocks: usize, list: &mut [i32]) -> io::Result<()> {
     let decoded = entropy::decode_scanned_coefficients(payload, blocks, list);
-    tell(decoded, list);
+    tell(rt, decoded, list)
 }
 
 // The length of the list; too many blocks are refused whatever it is.
@@ -59,44 +62,60 @@ fn list_len(blocks: usize) -> usize
     64 * blocks
 }
 
-fn decode(payload: &[u8], blocks: usize, list: &mut [i32])
+fn decode(rt: &impl Print, payload: &[u8], blocks: usize, list: &mut [i32]) -> io::Result<()>
     requires { length list.old ≡ list_limit }
 {
     let n = list_len(blocks);
-    decode_list(payload, blocks, &mut list[..n]);
+    decode_list(rt, payload, blocks, &mut list[..n])
 }
 
 // The first n bytes of what was read.
-fn decode_first(read: &[u8], n: usize, blocks: usize) {
+fn decode_first(rt: &impl Print, read: &[u8], n: usize, blocks: usize) -> io::Result<()> {
     let mut list = [0i32; arguments::LIST_LIMIT];
     if read.len() < n {
-        return;
+        return Ok(());
     }
-    decode(&read[..n], blocks, &mut list);
+    decode(rt, &read[..n], blocks, &mut list)
 }
 
 fn wide(x: u8) -> usize {
-    x as usize
+    usize::from(x)
+}
+
+// Reads until buf is full or the input ends, and returns how many bytes it put at the start of buf.
+fn read_full<R: Read>(input: &mut R, buf: &mut [u8]) -> io::Result<usize>
+    ensures bound { ReadsAtMost result buf.new }
+    ensures bytes { IfOk result (λ n. Consumes (R.remaining input.old) (R.remaining input.new) (take n buf.new)) }
+    ensures end { IfOk result (λ n. n < length buf.new → IsAtEnd (R.remaining input.new)) }
+{
+    let mut done = 0;
+    while done < buf.len() {
+        let n = input.read(&mut buf[done..])?;
+        if n == 0 {
+            return Ok(done);
+        }
+        done += n;
+    }
+    Ok(done)
 }
 
 // Whether there is a byte more.
-fn more() -> bool {
+fn more<R: Read>(input: &mut R) -> io::Result<bool> {
     let mut byte = [0u8; 1];
-    0 < io::read_full(STDIN_FILENO, &mut byte)
+    Ok(0 < read_full(input, &mut byte)?)
 }
 
-fn main() {
+fn main(rt: HostRuntime) -> io::Result<()> {
+    let mut input = rt.stdin();
     let mut count = [0u8; 1];
-    if io::read_full(STDIN_FILENO, &mut count) == 0 {
-        line(b"refused ", 1);
-        return;
+    if read_full(&mut input, &mut count)? == 0 {
+        return line(&rt, "refused ", 1);
     }
-    let mut payload = io::large_buffer();
-    let n = io::read_full(STDIN_FILENO, &mut payload);
+    let mut payload = [0u8; PAYLOAD_LIMIT];
+    let n = read_full(&mut input, &mut payload)?;
     // the buffer is as long as a payload may be
-    if more() {
-        line(b"refused ", 1);
-        return;
+    if more(&mut input)? {
+        return line(&rt, "refused ", 1);
     }
-    decode_first(&payload, n, wide(count[0]));
+    decode_first(&rt, &payload, n, wide(count[0]))
 }

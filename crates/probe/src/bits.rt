@@ -96,6 +96,7 @@ pub extern "C" fn probe_end_of_data(payload: &[u8], at: usize) -> u32
     c.end_of_data(payload) as u32
 }
 
+#[tactic(auto, unfolding(crate::specs::Bits::put_outcome))]
 #[unsafe(no_mangle)]
 pub extern "C" fn probe_put(buf: &mut [u8], at: usize, n: u32, v: u64, next: &mut usize) -> u32
     ensures result { result ≡ result_of (put_outcome buf.old at n) }
@@ -121,6 +122,7 @@ pub extern "C" fn probe_put(buf: &mut [u8], at: usize, n: u32, v: u64, next: &mu
     0
 }
 
+#[tactic(auto, unfolding(crate::specs::Bits::align_outcome))]
 #[unsafe(no_mangle)]
 pub extern "C" fn probe_align_byte(at: usize, next: &mut usize) -> u32
     ensures result { result ≡ result_of (align_outcome at) }

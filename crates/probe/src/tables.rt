@@ -26,6 +26,7 @@ fn unknown() -> Entry
     }
 }
 
+#[tactic(auto, unfolding(crate::specs::Tables::entry_at))]
 fn entry_at(table: [u8; 64], index: usize) -> Entry
     ensures { result ≡ entry_at table index }
 {
@@ -39,6 +40,7 @@ fn entry_at(table: [u8; 64], index: usize) -> Entry
 }
 
 // Of two tables, 0 is the first and 1 the second.
+#[tactic(auto, unfolding(crate::specs::Tables::entry_at))]
 fn entry_of(first: [u8; 64], second: [u8; 64], which: usize, index: usize) -> Entry
     ensures { result ≡ entry_of (two first second) which index }
 {
@@ -49,6 +51,7 @@ fn entry_of(first: [u8; 64], second: [u8; 64], which: usize, index: usize) -> En
     }
 }
 
+#[tactic(auto, unfolding(crate::specs::Tables::entry_at, crate::specs::Tables::scan_tables))]
 fn scan_entry(scan: usize, inverse: usize, index: usize) -> Entry
     ensures { result ≡ entry_of (scan_tables scan) inverse index }
 {

@@ -13,7 +13,7 @@ use lib.ListN.{length, get_or, drop, drop_of_length-le}
 use lib.Seq.{drop-cons}
 use borrow.Author.Tests.{le-leb, lt-leb, leb-true, eq-eqb, ne_eqb, eqb-true, not-true}
 use Rattle.quant.specs.Tables.{fours}
-use Rattle.quant.specs.Weights.{valid_table, same, load_luma, load_chroma}
+use Rattle.quant.specs.Weights.{valid_table, same, loads_luma, loads_chroma}
 use Rattle.quant.specs.declared.QuantMatrices.{QuantMatrices}
 
 -- ---- valid exactly if all weights are 2..63
@@ -57,12 +57,12 @@ not_same a b = (λ e eq. false≢true (sym (not-true (same a b) e) ∙ ap (same 
     go n false e = refl
 
 -- when each table has to be carried
-pub loads-luma : (m : QuantMatrices) → (load_luma m ≡ true) ↔ (m.luma ≡ fours → ⊥)
-unfolding load_luma
+pub loads-luma : (m : QuantMatrices) → (loads_luma m ≡ true) ↔ (m.luma ≡ fours → ⊥)
+unfolding loads_luma
 loads-luma m = not_same m.luma fours
 
-pub loads-chroma : (m : QuantMatrices) → (load_chroma m ≡ true) ↔ (m.chroma ≡ m.luma → ⊥)
-unfolding load_chroma
+pub loads-chroma : (m : QuantMatrices) → (loads_chroma m ≡ true) ↔ (m.chroma ≡ m.luma → ⊥)
+unfolding loads_chroma
 loads-chroma m = not_same m.chroma m.luma
 
 -- ---- a flag of both tables, where the first one's is known

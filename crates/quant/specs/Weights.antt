@@ -26,11 +26,11 @@ unfoldable pub weights_valid : QuantMatrices → Bool
 weights_valid m = valid_table m.luma && valid_table m.chroma
 
 -- whether a header carries a table for luma, and one for chroma: where it carries none, luma is all fours and chroma is luma's
-unfoldable pub load_luma : QuantMatrices → Bool
-load_luma m = not (same m.luma fours)
+unfoldable pub loads_luma : QuantMatrices → Bool
+loads_luma m = not (same m.luma fours)
 
-unfoldable pub load_chroma : QuantMatrices → Bool
-load_chroma m = not (same m.chroma m.luma)
+unfoldable pub loads_chroma : QuantMatrices → Bool
+loads_chroma m = not (same m.chroma m.luma)
 
 unfoldable pub is_default : QuantMatrices → Bool
 is_default m = same m.luma fours && same m.chroma fours

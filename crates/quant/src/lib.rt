@@ -2,7 +2,7 @@
 #![tactic(auto)]
 
 ghost use Rattle.std.specs.Prelude.{◌≡◌};
-ghost use Rattle.quant.specs.Weights.{weights_valid, load_luma, load_chroma, is_default, flat_pair, perceptual_pair, proxy_pair, lt_pair, standard_pair, hq_pair, told_blend, answered, blend_of, qscale_of};
+ghost use Rattle.quant.specs.Weights.{weights_valid, loads_luma, loads_chroma, is_default, flat_pair, perceptual_pair, proxy_pair, lt_pair, standard_pair, hq_pair, told_blend, answered, blend_of, qscale_of};
 
 use answers::Refusal;
 
@@ -101,7 +101,7 @@ impl QuantMatrices {
 
     // Whether a header has to carry luma's table.
     pub fn load_luma(self) -> bool
-        ensures { result ≡ load_luma self }
+        ensures { result ≡ loads_luma self }
     {
         let luma = self.luma;
         !weights::table_same(luma, tables::DEFAULT_QMAT)
@@ -109,7 +109,7 @@ impl QuantMatrices {
 
     // Whether it has to carry chroma's: a chroma table that is not carried is luma's.
     pub fn load_chroma(self) -> bool
-        ensures { result ≡ load_chroma self }
+        ensures { result ≡ loads_chroma self }
     {
         let luma = self.luma;
         let chroma = self.chroma;

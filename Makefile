@@ -16,8 +16,8 @@ no_rt = 'make: rt, the command of the Rattle kit, is not on the PATH; README.md,
 lib: target/dist/lib/libcart.a target/dist/include/cart.h target/dist/include/cart_plain.h target/dist/lib/pkgconfig/cart.pc
 	@echo "make: target/dist has libcart.a for $$(uname -m), its headers and cart.pc"
 
-# rt would prove the crate again at each call, which takes half a minute; on x86-64 the archive is that of rt staticlib
-target/native/lib%.a: crates.txt $(shell find crates -name '*.rt' -o -name '*.antt')
+# rt would check the crate again at each call, which takes a while; out/ is rt's own
+target/native/lib%.a: crates.txt $(shell find crates -name out -prune -o \( -name '*.rt' -o -name '*.antt' \) -print)
 	@$(need_rt)
 	compare/native.sh $*
 
@@ -58,7 +58,7 @@ decode:
 # Proves every crate that changed, and runs the programs.
 prove:
 	@$(need_rt)
-	rt check
+	rt all test
 
 # The whole gate.
 test:
@@ -108,6 +108,6 @@ cases:
 help:
 	@awk '/^# /{said = substr($$0, 3)} /^[a-z-]+:/{sub(/:.*/, ""); if (!seen[$$0]++) printf "%-14s%s\n", $$0, said}' $(firstword $(MAKEFILE_LIST))
 
-# All that was built.
+# All that was built, and what rt keeps of its proofs.
 clean:
-	rm -rf target
+	rm -rf target crates/*/out

@@ -1,8 +1,7 @@
 /* SPDX-License-Identifier: MIT
 
    cart.h: reads and writes the payloads of ProRes slices (SMPTE RDD 36) and their alpha. The functions are in
-   libcart.a, for Linux on x86-64 (on aarch64, make builds one for that); cart_plain.h has what most programs need
-   beside them.
+   libcart.a, for Linux on x86-64; cart_plain.h has what most programs need beside them.
 
    The functions are written in Rattle. It is proved that for every argument each gives the result, the numbers and the
    buffers that its definition says; this file says the same in words. That the compiler keeps to the source is taken on

@@ -10,7 +10,7 @@ ghost use Rattle.bitstream_reader.specs.Readers.{next_of, outcome_from, advanced
 
 use bitstream::{Cursor, Read};
 
-#[derive(Drop)]
+#[derive(Clone, Copy)]
 pub struct BitReader<'a> {
     payload: &'a [u8],
     at: usize,

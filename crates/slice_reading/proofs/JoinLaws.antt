@@ -2,6 +2,7 @@
 -- Assumes nothing.
 use Prim.Native.Nat.{ℕ, zero, suc, ◌*◌, ◌≤◌}
 use native.Mathlib.Nat.{not-suc-le-zero, le_of_suc-le-suc}
+use native.Mathlib.Omega.{arith}
 use mathlib.Core.Path.{◌≡◌, refl, ap, ap₂, ◌∙◌}
 use mathlib.Core.Bool.{Bool, cond}
 use mathlib.Core.List.{List, ◌∷◌}
@@ -19,6 +20,10 @@ use Rattle.slice_shape.specs.Shapes.{slice_length}
 use Rattle.slice_shape.specs.Decoding.{SliceAnswer, joined_answer, all_read, slice_decoding, joined_slice}
 use Rattle.slice_shape.specs.Told.{told_reached}
 use Rattle.slice_reading.specs.Due.{due_behind}
+
+pub due-le : (r : Reached) (b : ℕ) → due_behind (told_reached r) b ≤ b
+due-le (At n) b = omega arith
+due-le (No k) b = omega arith
 
 -- ---- what three readings reached is joined as the readings are: a component counts only where those before it were read, the lists only where all were
 

@@ -7,7 +7,7 @@ use native.Mathlib.Nat.{mul-le-mul}
 use native.Mathlib.Omega.{arith}
 use lib.Dec.{leb, eqb}
 use borrow.Author.Tests.{leb-true, eq-eqb, ne_eqb, eqb-false, not-true, not-false}
-use Rattle.slice_shape.specs.Shapes.{known_chroma, chroma_blocks, counts, unknown, counted, blocks_per, macroblock_limit, in_limit, slice_length, component_limit, slice_list, InSliceLimits}
+use Rattle.slice_shape.specs.Shapes.{known_chroma, chroma_blocks, counts, unknown, counted, blocks_per, macroblock_limit, in_limit, slice_length, component_limit, component_list, slice_list, InSliceLimits}
 
 -- ---- the tests
 
@@ -67,6 +67,9 @@ few-of {m} {c} f h e =
 -- the blocks of a component, its coefficients, and those of the slice
 pub few-part : {m c : ℕ} → InSliceLimits m c → m * c ≤ component_limit
 few-part h = mul-le-mul h.few-m h.few-c
+
+pub few-long : {m c : ℕ} → InSliceLimits m c → 64 * (m * c) ≤ component_list
+few-long h = omega (arith, few-part h)
 
 pub few-slice : {m c : ℕ} → InSliceLimits m c → slice_length m c ≤ slice_list
 few-slice {m} {c} h = let per : blocks_per c ≤ 12 = omega (arith, h.few-c) in omega (arith, mul-le-mul h.few-m per)

@@ -67,14 +67,16 @@ pub record Lent (n : ℕ) (list l : List ℤ) : Type 0 where
   pub room : n ≤ length (l ++ drop n list)
   pub front : take n (l ++ drop n list) ≡ l
 
-pub lent_of : (n : ℕ) (list l : List ℤ) → n ≤ slice_list → length list ≡ slice_list → length l ≡ length (take n list) → Lent n list l
-lent_of n list l h z e =
-    let inside : n ≤ length list = omega (arith, h, z) in
-    let back : length l ≡ n = e ∙ length-take-le n list inside in
+pub lent : (y cb cr m f s n : ℕ) (list l : List ℤ) → slice_arguments 4 y cb cr m f s n ≡ fit → length list ≡ slice_list
+    → length l ≡ length (take (n / 4) list) → Lent (n / 4) list l
+lent y cb cr m f s n list l fits z e =
+    let k : ℕ = n / 4 in
+    let inside : k ≤ length list = omega (arith, (listed y cb cr m f s n fits).inside, z) in
+    let back : length l ≡ k = e ∙ length-take-le k list inside in
     record {
       inside = inside;
-      lent = sym (length-take-le n list inside);
+      lent = sym (length-take-le k list inside);
       back = back;
-      room = omega (arith, length-append l (drop n list), back);
-      front = take_at l (drop n list) n back;
+      room = omega (arith, length-append l (drop k list), back);
+      front = take_at l (drop k list) k back;
     }

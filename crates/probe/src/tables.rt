@@ -87,7 +87,7 @@ pub extern "C" fn probe_scan(scan: usize, inverse: usize, index: usize, place: &
 // 1 where both tables are all fours.
 #[unsafe(no_mangle)]
 pub extern "C" fn probe_is_default(luma: &[u8; 64], chroma: &[u8; 64]) -> u32
-    ensures { result ≡ val (is_default (record { luma = luma.entry.now; chroma = chroma.now })) }
+    ensures { result ≡ val (is_default (record { luma = luma.now; chroma = chroma.now })) }
 {
     let l = *luma;
     let c = *chroma;

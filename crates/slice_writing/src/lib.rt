@@ -77,7 +77,7 @@ fn write_lists(
     out: &mut [u8],
 ) -> EncodedSlice
     requires { Encodable (mbs * 4) y.now × Encodable (mbs * c) cb.now × Encodable (mbs * c) cr.now × (needed_for (sizes_of (codes_of mbs c (record { y = y.now; cb = cb.now; cr = cr.now }))) ≤ length out.old) }
-    ensures { encoding (told_encoded_slice result) out.new ≡ written_slice (codes_of mbs c (record { y = y.entry.now; cb = cb.now; cr = cr.now })) out.old }
+    ensures { encoding (told_encoded_slice result) out.new ≡ written_slice (codes_of mbs c (record { y = y.now; cb = cb.now; cr = cr.now })) out.old }
 {
     let y_code = write(y, mbs * 4, out, 0);
     let behind_y = y_code.bytes;
@@ -101,7 +101,7 @@ fn encode_lists(
     out: &mut [u8],
 ) -> EncodedSlice
     requires { Encodable (mbs * 4) y.now × Encodable (mbs * c) cb.now × Encodable (mbs * c) cr.now }
-    ensures { encoding (told_encoded_slice result) out.new ≡ written_slice (codes_of mbs c (record { y = y.entry.now; cb = cb.now; cr = cr.now })) out.old }
+    ensures { encoding (told_encoded_slice result) out.new ≡ written_slice (codes_of mbs c (record { y = y.now; cb = cb.now; cr = cr.now })) out.old }
 {
     let y_blocks = mbs * 4;
     let c_blocks = mbs * c;

@@ -1,14 +1,14 @@
 -- Laws of a call's arguments: the cases of their test, what is left where they are taken, and what the call then comes to.
 -- Assumes nothing.
-use Prim.Native.Nat.{ℕ, ◌≤◌, ◌<◌}
+use Prim.Native.Nat.{ℕ, ◌≤◌}
 use native.Mathlib.Omega.{arith}
 use mathlib.Core.Path.{◌≡◌, refl, sym, ap, ◌∙◌}
 use mathlib.Core.Bool.{Bool, true, false, cond, ◌&&◌}
 use mathlib.Core.List.{List}
 use lib.Dec.{leb}
 use lib.ListN.{length}
-use borrow.Author.Tests.{le-leb, lt-leb, leb-true}
-use Rattle.common.proofs.Choices.{cond_yes, cond_no}
+use borrow.Author.Tests.{le-leb, leb-true}
+use Rattle.common.proofs.Choices.{cond_yes}
 use Rattle.answers.specs.Answers.{refuse, decoding, declines, encoding}
 use Rattle.bitstream.specs.Told.{payload_limit}
 use Rattle.bitstream.specs.Written.{written}
@@ -27,19 +27,9 @@ module _ (code n p : ℕ) where
   unfolding alpha_arguments
   by_kind e = ap (λ (s : Selection). on_kind s of_kind no_kind) e
 
-  pub arguments-unknown : {r : ℕ} → kind_of code ≡ no_kind r → alpha_arguments code n p ≡ no_kind r
-  arguments-unknown e = by_kind e
-
   module _ {k : AlphaChannelType} (known : kind_of code ≡ selects k) where
-    pub arguments-many : sample_limit < n → alpha_arguments code n p ≡ no_kind 1
-    arguments-many h = by_kind known ∙ simp (lt-leb n sample_limit h)
-
-    module _ (few : n ≤ sample_limit) where
-      pub arguments-long : payload_limit < p → alpha_arguments code n p ≡ no_kind 1
-      arguments-long h = by_kind known ∙ simp (le-leb n sample_limit few, lt-leb p payload_limit h)
-
-      pub arguments-taken : p ≤ payload_limit → alpha_arguments code n p ≡ selects k
-      arguments-taken h = by_kind known ∙ simp (le-leb n sample_limit few, le-leb p payload_limit h)
+    pub arguments-taken : n ≤ sample_limit → p ≤ payload_limit → alpha_arguments code n p ≡ selects k
+    arguments-taken few h = by_kind known ∙ simp (le-leb n sample_limit few, le-leb p payload_limit h)
 
   -- what is left where they are taken
   pub record AlphaTaken : Type 0 where
@@ -51,8 +41,8 @@ module _ (code n p : ℕ) where
     where
       within : (x y : Bool) (j : AlphaChannelType) → leb n sample_limit ≡ x → leb p payload_limit ≡ y → cond (x && y) (selects j) (no_kind 1) ≡ selects k → AlphaTaken
       within true true j ex ey f = record { few = leb-true n sample_limit ex; short = leb-true p payload_limit ey }
-      within true false j ex ey f = absurd (let z : ◌≡◌ {A = ℕ} 0 1 = cc in omega arith)
-      within false y j ex ey f = absurd (let z : ◌≡◌ {A = ℕ} 0 1 = cc in omega arith)
+      within true false j ex ey f = absurd (cc)
+      within false y j ex ey f = absurd (cc)
 
       chosen : (s : Selection) → kind_of code ≡ s → AlphaTaken
       chosen (selects j) s = within (leb n sample_limit) (leb p payload_limit) j refl refl (sym (by_kind s) ∙ e)
@@ -73,10 +63,6 @@ encode-by samples code old e = ap (λ (s : Selection). on_kind s (λ k. alpha_wr
 -- ---- writing, by the samples' range
 
 module _ (k : AlphaChannelType) (samples old : List ℕ) where
-  pub writing-out : samples_in_range k samples ≡ false → alpha_writing_of k samples old ≡ encoding (declines 4) old
-  unfolding alpha_writing_of
-  writing-out e = cond_no _ _ e
-
   pub writing-in : samples_in_range k samples ≡ true → alpha_writing_of k samples old ≡ written (encode_alpha k samples) old
   unfolding alpha_writing_of
   writing-in e = cond_yes _ _ e

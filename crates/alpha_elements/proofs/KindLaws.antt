@@ -1,12 +1,11 @@
 -- Laws of the kinds: which code number is which, and what widths, limits and masks have to do with each other.
 -- Assumes nothing.
-use Prim.Native.Nat.{ℕ, ◌+◌, ◌*◌, ◌^◌, ◌≤◌, ◌<◌}
+use Prim.Native.Nat.{◌+◌, ◌*◌, ◌^◌, ◌≤◌, ◌<◌}
 use native.Mathlib.Omega.{arith}
 use mathlib.Core.Path.{◌≡◌, refl}
-use borrow.Author.Tests.{ne_eqb}
 use Rattle.alpha_elements.specs.declared.AlphaChannelType.{AlphaChannelType}
 use Rattle.alpha_elements.specs.declared.AlphaChannelType.TheVariants.{Eight, Sixteen}
-use Rattle.alpha_elements.specs.Kinds.{width_of, small_width_of, limit_of, mask_of, most_bits_of, code_of, selects, no_kind, kind_of}
+use Rattle.alpha_elements.specs.Kinds.{width_of, small_width_of, limit_of, mask_of, most_bits_of, code_of, selects, kind_of}
 
 -- ---- code numbers
 
@@ -14,10 +13,6 @@ pub kind-code : (k : AlphaChannelType) → kind_of (code_of k) ≡ selects k
 unfolding kind_of
 kind-code Eight = refl
 kind-code Sixteen = refl
-
-pub kind-unknown : (c : ℕ) → (c ≡ 1 → ⊥) → (c ≡ 2 → ⊥) → kind_of c ≡ no_kind 13
-unfolding kind_of
-kind-unknown c h g = simp (ne_eqb c 1 h, ne_eqb c 2 g)
 
 -- ---- widths, limits and masks
 

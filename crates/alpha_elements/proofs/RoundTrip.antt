@@ -8,6 +8,7 @@ use mathlib.Core.List.{List, [], ◌∷◌, ◌++◌, append_assoc, append-nil}
 use lib.Dec.{leb, ltb, eqb}
 use lib.IntN.{ℤ, pos, negsuc, ◌-ℤ◌}
 use lib.ListN.{length, replicate}
+use Rattle.std.proofs.lemmas.Bool.{and_parts}
 use borrow.Author.Tests.{leb-true, ltb-true, eqb-true}
 use Rattle.bitstream.specs.Bits.{ended}
 use Rattle.answers.specs.Machine.{from, accepted}
@@ -17,7 +18,7 @@ use Rattle.alpha_elements.specs.Limits.{run_limit, samples_in_range}
 use Rattle.alpha_elements.specs.Elements.{alpha_run_element, alpha_element_bits, alpha_bits, difference_element, run_elements, alpha_elements_of, encode_alpha}
 use Rattle.alpha_elements.specs.Decoding.{difference, alpha_run, alpha_step, alpha_finish, decode_alpha}
 use Rattle.alpha_elements.proofs.KindLaws.{pow-width}
-use Rattle.alpha_elements.proofs.StepLaws.{and-true, step_run, step-difference, step_end, finish-ended, from-moved, from-stop}
+use Rattle.alpha_elements.proofs.StepLaws.{step_run, step-difference, step_end, finish-ended, from-moved, from-stop}
 
 -- every sample is below 2^w
 abbrev pub Small : AlphaChannelType → List ℕ → Type 0
@@ -28,7 +29,7 @@ pub in_range-small : (k : AlphaChannelType) (ss : List ℕ) → samples_in_range
 unfolding samples_in_range
 in_range-small k [] e = tt
 in_range-small k (s ∷ ss) e =
-    let ab = and-true (leb s (mask_of k)) (samples_in_range k ss) e in
+    let ab = and_parts (leb s (mask_of k)) (samples_in_range k ss) e in
     (omega (arith, leb-true s (mask_of k) ab.0, pow-width k), in_range-small k ss ab.1)
 
 replicate-shift : (c v : ℕ) (ss : List ℕ) → replicate (suc c) v ++ ss ≡ replicate c v ++ v ∷ ss
@@ -83,7 +84,7 @@ module _ (k : AlphaChannelType) (z : List Bool) (few : length z ≤ 7) (none : e
           → from (alpha_step k) alpha_finish (alpha_run left v) out (alpha_bits k (elim b [ true ↦ run_elements k v (suc c) ss | false ↦ alpha_run_element c ∷ difference_element k (pos s -ℤ pos v) ∷ run_elements k s 1 ss ]) ++ z)
           ≡ accepted (out ++ (replicate c v ++ s ∷ ss)) z
       go ih true e =
-          let ab = and-true (eqb s v) (ltb c run_limit) e in
+          let ab = and_parts (eqb s v) (ltb c run_limit) e in
           ih v (suc c) left out (omega arith) (ltb-true c run_limit ab.1) (omega arith) hv sm.1
           ∙ ap (λ (o : List ℕ). accepted (out ++ o) z) (replicate-shift c v ss ∙ ap (λ (x : ℕ). replicate c v ++ x ∷ ss) (sym (eqb-true s v ab.0)))
       go ih false e = other-back s ss ih v c left out h1 hc hl hv sm.0 sm.1

@@ -11,6 +11,7 @@ use lib.IntN.{ℤ, pos, negsuc, nat_abs, ◌-ℤ◌}
 use lib.ListN.{length, replicate, length-append}
 use borrow.Author.Tests.{le-leb, leb-true, leb-false, le-ltb, lt-ltb, ne_eqb, eqb-true, eqb-false}
 use Rattle.common.proofs.Choices.{cond_yes, cond_no}
+use Rattle.std.proofs.lemmas.Bool.{and_parts}
 use Rattle.bitstream.specs.Bits.{field, ended}
 use Rattle.bitstream.specs.Reading.{read_field}
 use Rattle.answers.specs.Machine.{moved, stop, refuses, from, rejected, accepted, on_read}
@@ -95,8 +96,7 @@ step_run k left v n t h g l = run_step-run_to left v n t h g ∙ run_to-ok left 
 -- ---- one step reads the difference that was written
 
 pub and-true : (a b : Bool) → a && b ≡ true → (a ≡ true) × (b ≡ true)
-and-true true b e = (refl, e)
-and-true false b e = absurd (let z : ◌≡◌ {A = ℕ} 0 1 = cc in omega arith)
+and-true = and_parts
 
 module _ (k : AlphaChannelType) (left : ℕ) (p : ℤ) (t : List Bool) where
   read_small : (m : ℕ) (g : Bool) → m < limit_of k → difference_step k left p (alpha_element_bits k (small_element m g) ++ t) ≡ small_to k left p m (g ∷ t)
@@ -120,7 +120,7 @@ module _ (k : AlphaChannelType) (left : ℕ) (p : ℤ) (t : List Bool) where
       go : (c : Bool) → leb 1 (nat_abs d) && leb (nat_abs d) (limit_of k) ≡ c
           → difference_step k left p (alpha_element_bits k (cond c (small_element (nat_abs d - 1) (is_negative d)) (escaped_element (residue (2 ^ width_of k) d))) ++ t) ≡ moved (alpha_run left s) [] t
       go true e =
-          let ab = and-true (leb 1 (nat_abs d)) (leb (nat_abs d) (limit_of k)) e in
+          let ab = and_parts (leb 1 (nat_abs d)) (leb (nat_abs d) (limit_of k)) e in
           let one : 1 ≤ nat_abs d = leb-true 1 (nat_abs d) ab.0 in
           let lim : nat_abs d ≤ limit_of k = leb-true (nat_abs d) (limit_of k) ab.1 in
           read_small (nat_abs d - 1) (is_negative d) (omega arith)

@@ -1,10 +1,9 @@
 -- The kinds of alpha: document 01, "Alpha", and refusal 13. What differs between the kinds is a function of the kind.
-use Rattle.std.specs.Prelude.{ℕ, cond, eqb}
+use Rattle.std.specs.Prelude.{ℕ, cond, eqb, Result, Ok, Err}
 use Rattle.answers.specs.Refusals.{number_of}
+use Rattle.answers.specs.declared.Refusal.{Refusal}
 use Rattle.alpha_elements.specs.declared.AlphaChannelType.{AlphaChannelType}
 use Rattle.alpha_elements.specs.declared.AlphaChannelType.TheVariants.{Eight, Sixteen}
-use Rattle.alpha_elements.specs.declared.Kind.{Kind}
-use Rattle.alpha_elements.specs.declared.Kind.TheVariants.{Known, Refused}
 
 -- the bits of a sample, and of an escaped difference
 abbrev pub width_of : AlphaChannelType → ℕ
@@ -47,9 +46,9 @@ abbrev pub on_kind : {A : Type 0} → Selection → (AlphaChannelType → A) →
 on_kind (selects k) f other = f k
 on_kind (no_kind r) f other = other r
 
-abbrev pub told_kind : Kind → Selection
-told_kind (Known k) = selects k
-told_kind (Refused why) = no_kind (number_of why)
+abbrev pub told_kind : Result AlphaChannelType Refusal → Selection
+told_kind (Ok k) = selects k
+told_kind (Err why) = no_kind (number_of why)
 
 unfoldable pub kind_of : ℕ → Selection
 kind_of c = cond (eqb c 1) (selects Eight) (cond (eqb c 2) (selects Sixteen) (no_kind 13))

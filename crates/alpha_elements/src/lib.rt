@@ -11,41 +11,36 @@ pub mod arguments; // the limits, and the test of arguments
 pub mod values; // samples after their differences
 pub mod words; // differences and runs as codewords
 
-// What differs between the kinds is a function of the kind.
-#[derive(Clone, Copy)]
+// What differs between the kinds is a function of the kind. A kind's number is its code number.
+#[derive(Clone, Copy, Debug, PartialEq, Eq)]
 pub enum AlphaChannelType {
-    Eight,
-    Sixteen,
+    Eight = 1,
+    Sixteen = 2,
 }
 
-// How a code number is answered.
-#[derive(Clone, Copy)]
-pub enum Kind {
-    Known(AlphaChannelType),
-    Refused(Refusal),
+impl TryFrom<usize> for AlphaChannelType {
+    type Error = Refusal;
+
+    ghost try_from_gives = { λ code r. told_kind r ≡ kind_of code };
+
+    #[tactic(auto, unfolding(crate::specs::Kinds::kind_of))]
+    fn try_from(code: usize) -> Result<Self, Refusal> {
+        match code {
+            1 => Ok(AlphaChannelType::Eight),
+            2 => Ok(AlphaChannelType::Sixteen),
+            _ => Err(Refusal::Selector),
+        }
+    }
 }
 
 impl AlphaChannelType {
     // The longest run.
     pub const MAX_RUN: u32 = 2048;
 
-    pub fn from_code(code: usize) -> Kind
-        ensures { told_kind result ≡ kind_of code }
-    {
-        match code {
-            1 => Kind::Known(AlphaChannelType::Eight),
-            2 => Kind::Known(AlphaChannelType::Sixteen),
-            _ => Kind::Refused(Refusal::Selector),
-        }
-    }
-
     pub fn code(self) -> usize
         ensures { result ≡ code_of self }
     {
-        match self {
-            AlphaChannelType::Eight => 1,
-            AlphaChannelType::Sixteen => 2,
-        }
+        self as usize
     }
 
     // The bits of a sample.
@@ -87,6 +82,7 @@ impl AlphaChannelType {
             AlphaChannelType::Sixteen => 0xffff,
         }
     }
+
     // The most bits that a sample takes in a code.
     pub fn most_bits(self) -> u32
         ensures { result ≡ most_bits_of self }

@@ -29,7 +29,8 @@ pub fn small_sample(kind: AlphaChannelType, prev: u32, m: u32, negative: bool) -
 {
     let mask = kind.mask();
     if negative {
-        return (prev + mask - (m + 1)) % (mask + 1);
+        (prev + mask - (m + 1)) % (mask + 1)
+    } else {
+        (prev + m) % (mask + 1)
     }
-    (prev + m) % (mask + 1)
 }

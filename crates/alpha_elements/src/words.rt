@@ -16,7 +16,7 @@ pub fn small_word(kind: AlphaChannelType, m: u32, negative: bool) -> Word
 {
     Word {
         len: kind.small_width() + 2,
-        bits: 2 * (m as u64) + negative as u64,
+        bits: 2 * u64::from(m) + u64::from(negative),
     }
 }
 
@@ -27,7 +27,7 @@ pub fn escaped_word(kind: AlphaChannelType, raw: u32) -> Word
 {
     Word {
         len: kind.width() + 1,
-        bits: (kind.mask() + 1 + raw) as u64,
+        bits: u64::from(kind.mask() + 1 + raw),
     }
 }
 
@@ -41,18 +41,20 @@ pub fn difference_word(kind: AlphaChannelType, prev: u32, v: u32) -> Word
     if prev <= v {
         let m = v + 1 - prev;
         if m <= limit {
-            return small_word(kind, m - 1, false);
+            small_word(kind, m - 1, false)
+        } else {
+            escaped_word(kind, m % turn)
         }
-        return escaped_word(kind, m % turn);
+    } else {
+        let m = prev - 1 - v;
+        if m == 0 {
+            escaped_word(kind, 0)
+        } else if m <= limit {
+            small_word(kind, m - 1, true)
+        } else {
+            escaped_word(kind, turn - m)
+        }
     }
-    let m = prev - 1 - v;
-    if m == 0 {
-        return escaped_word(kind, 0);
-    }
-    if m <= limit {
-        return small_word(kind, m - 1, true);
-    }
-    escaped_word(kind, turn - m)
 }
 
 // A run of n: a 1; or a 0 and n - 1 in 4 bits; or five zeros and n - 1 in 11 bits.
@@ -61,16 +63,11 @@ pub fn run_word(n: u32) -> Word
     ensures { Spells (run_bits n) result.len result.bits }
 {
     if n == 1 {
-        return Word { len: 1, bits: 1 };
-    }
-    if n <= 16 {
-        return Word {
-            len: 5,
-            bits: (n - 1) as u64,
-        };
-    }
-    Word {
-        len: 16,
-        bits: (n - 1) as u64,
+        Word { len: 1, bits: 1 }
+    } else {
+        Word {
+            len: if n <= 16 { 5 } else { 16 },
+            bits: u64::from(n - 1),
+        }
     }
 }

@@ -13,23 +13,19 @@ use lib.Seq.{take_at, take_all, length-take-le}
 use borrow.Author.Tests.{ne_eqb}
 use Rattle.common.proofs.Choices.{cond_no}
 use Rattle.answers.specs.Refusals.{number_of}
+use Rattle.std.specs.Prelude.{Ok, Err}
 use Rattle.answers.specs.Machine.{from}
-use Rattle.answers.specs.Answers.{read, decoding, settled}
-use Rattle.answers.specs.Told.{reached_says}
+use Rattle.answers.specs.Answers.{read, refuse, decoding, settled}
 use Rattle.answers.specs.declared.Refusal.{Refusal}
-use Rattle.answers.specs.declared.Reached.{Reached}
-use Rattle.answers.specs.declared.Reached.TheVariants.{At, No as Stopped}
 use Rattle.answers.proofs.StandLaws.{rejects-settled, stands_on, stands-rejects, stands-accepts}
+use Rattle.bitstream.specs.declared.Cursor.{Cursor}
 use Rattle.alpha_elements.specs.declared.AlphaChannelType.{AlphaChannelType}
 use Rattle.alpha_elements.specs.Values.{previous_of}
 use Rattle.alpha_elements.specs.Decoding.{difference, alpha_run, difference_step, run_step, alpha_step, alpha_finish, decode_alpha}
 use Rattle.alpha_elements.proofs.Unique.{start-unique}
 use Rattle.alpha_elements.proofs.StepLaws.{step_end, from-moved, from-stop, from-refused}
-use Rattle.alpha_reading.specs.Steps.{difference_due, SampleStepped, run_due, AlphaRunStepped, from_difference, PairOn, AlphaPairStepped, AlphaStands, AlphaEnds}
-use Rattle.alpha_reading.specs.declared.SampleStep.TheVariants.{To, No}
-use Rattle.alpha_reading.specs.declared.AlphaRunStep.TheVariants.{To as RunTo, No as NoRun}
+use Rattle.alpha_reading.specs.Steps.{difference_due, SampleStepped, AlphaRunStepped, from_difference, PairOn, AlphaPairStepped, AlphaStands, AlphaEnds}
 use Rattle.alpha_reading.specs.declared.Alphas.{Alphas}
-use Rattle.alpha_reading.specs.declared.PairStep.TheVariants.{To as PairTo, No as NoPair}
 
 -- ---- a difference and its run
 
@@ -42,37 +38,37 @@ unfolding alpha_step
 run-due k left v bs = refl
 
 module _ (B : List Bool) (k : AlphaChannelType) (total : ℕ) (s : Alphas) (room : s.place < total) where
-  due : alpha_step k (difference (total - s.place) (previous_of s.prev)) (drop s.at B) ≡ difference_due k s.prev s.at B (total - s.place)
-  due = difference-due k (total - s.place) (previous_of s.prev) (drop s.at B) (omega arith)
+  due : alpha_step k (difference (total - s.place) (previous_of s.prev)) (drop s.cursor.at B) ≡ difference_due k s.prev s.cursor.at B (total - s.place)
+  due = difference-due k (total - s.place) (previous_of s.prev) (drop s.cursor.at B) (omega arith)
 
-  pub pair-no : (why : Refusal) → SampleStepped B k (difference_due k s.prev s.at) (No why) → AlphaPairStepped B k total s (NoPair why)
-  pair-no why d = λ out. record { bits = drop s.at B; is = from-refused k _ out (drop s.at B) (number_of why) (due ∙ d.is (total - s.place)) }
+  pub pair-refused : (why : Refusal) → SampleStepped B k s.prev s.cursor.at (Err why) → AlphaPairStepped B k total s (Err why)
+  pair-refused why d = λ out. record { bits = drop s.cursor.at B; is = from-refused k _ out (drop s.cursor.at B) (number_of why) (due ∙ d.is (total - s.place)) }
 
-  module _ (v at : ℕ) (d : SampleStepped B k (difference_due k s.prev s.at) (To v at)) where
-    on-sample : (out : List ℕ) → from_difference B k total s out ≡ from (alpha_step k) alpha_finish (alpha_run (total - s.place) v) out (drop at B)
+  module _ (v : ℕ) (c : Cursor) (d : SampleStepped B k s.prev s.cursor.at (Ok (v, c))) where
+    on-sample : (out : List ℕ) → from_difference B k total s out ≡ from (alpha_step k) alpha_finish (alpha_run (total - s.place) v) out (drop c.at B)
     on-sample out =
-        from-moved k _ out (drop s.at B) _ _ _ (due ∙ d.is (total - s.place))
-        ∙ ap (λ (l : List ℕ). from (alpha_step k) alpha_finish (alpha_run (total - s.place) v) l (drop at B)) (append-nil out)
+        from-moved k _ out (drop s.cursor.at B) _ _ _ (due ∙ d.is (total - s.place))
+        ∙ ap (λ (l : List ℕ). from (alpha_step k) alpha_finish (alpha_run (total - s.place) v) l (drop c.at B)) (append-nil out)
 
-    pub pair-run-no : (why : Refusal) → AlphaRunStepped B (total - s.place) (run_due (total - s.place) at) (NoRun why) → AlphaPairStepped B k total s (NoPair why)
-    pair-run-no why r = λ out.
+    pub pair-run-refused : (why : Refusal) → AlphaRunStepped B (total - s.place) c.at (Err why) → AlphaPairStepped B k total s (Err why)
+    pair-run-refused why r = λ out.
         record {
-          bits = drop at B;
-          is = on-sample out ∙ from-refused k _ out (drop at B) (number_of why) (run-due k (total - s.place) v (drop at B) ∙ r.is v);
+          bits = drop c.at B;
+          is = on-sample out ∙ from-refused k _ out (drop c.at B) (number_of why) (run-due k (total - s.place) v (drop c.at B) ∙ r.is v);
         }
 
-    pub pair-on : (n behind : ℕ) → AlphaRunStepped B (total - s.place) (run_due (total - s.place) at) (RunTo n behind)
-        → AlphaPairStepped B k total s (PairTo v (record { at = behind; place = s.place + n; prev = v + 1 }))
-    pair-on n behind r =
+    pub pair-on : (n : ℕ) (b : Cursor) → AlphaRunStepped B (total - s.place) c.at (Ok (n, b))
+        → AlphaPairStepped B k total s (Ok (v, record { cursor = b; place = s.place + n; prev = v + 1 }))
+    pair-on n b r =
         let less : total - s.place - n ≡ total - (s.place + n) = omega arith in
         let many : n ≡ s.place + n - s.place = omega arith in
         let fits : n ≤ total - s.place = r.keeps.room in
         record {
           is = λ out.
               on-sample out
-              ∙ from-moved k _ out (drop at B) _ _ _ (run-due k (total - s.place) v (drop at B) ∙ r.is v)
-              ∙ ap₂ (λ (i j : ℕ). from (alpha_step k) alpha_finish (difference i (pos v)) (out ++ replicate j v) (drop behind B)) less many
-              ∙ ap (λ (q : ℕ). from (alpha_step k) alpha_finish (difference (total - (s.place + n)) (previous_of q)) (out ++ replicate (s.place + n - s.place) v) (drop behind B))
+              ∙ from-moved k _ out (drop c.at B) _ _ _ (run-due k (total - s.place) v (drop c.at B) ∙ r.is v)
+              ∙ ap₂ (λ (i j : ℕ). from (alpha_step k) alpha_finish (difference i (pos v)) (out ++ replicate j v) (drop b.at B)) less many
+              ∙ ap (λ (q : ℕ). from (alpha_step k) alpha_finish (difference (total - (s.place + n)) (previous_of q)) (out ++ replicate (s.place + n - s.place) v) (drop b.at B))
               (sym (add-one v));
           further = omega (arith, r.keeps.some);
           room = omega arith;
@@ -82,13 +78,17 @@ module _ (B : List Bool) (k : AlphaChannelType) (total : ℕ) (s : Alphas) (room
 
 -- ---- the start, a pair that moves, the end
 
-pub stands-start : (B : List Bool) (k : AlphaChannelType) (out : List ℕ) (prev : ℕ) → previous_of prev ≡ negsuc 0
-    → AlphaStands B k (length out) (record { at = 0; place = 0; prev = prev }) out
+pub stands-start : (B : List Bool) (k : AlphaChannelType) (out : List ℕ) (c : Cursor) (prev : ℕ) → c.at ≡ 0 → previous_of prev ≡ negsuc 0
+    → AlphaStands B k (length out) (record { cursor = c; place = 0; prev = prev }) out
 unfolding decode_alpha
-stands-start B k out prev e =
+stands-start B k out c prev z e =
     let all : length out - 0 ≡ length out = omega arith in
     record {
-      stands = record { same = ap₂ (λ (i : ℕ) (p : ℤ). from (alpha_step k) alpha_finish (difference i p) [] B) all e; within = omega arith };
+      stands = record {
+        same = ap₂ (λ (i : ℕ) (p : ℤ). from (alpha_step k) alpha_finish (difference i p) [] (drop c.at B)) all e
+            ∙ ap (λ (j : ℕ). from (alpha_step k) alpha_finish (difference (length out) (negsuc 0)) [] (drop j B)) z;
+        within = omega arith;
+      };
       long = refl;
       room = omega arith;
       range = omega (arith, start-unique prev 0 e refl);
@@ -114,7 +114,7 @@ module _ {B : List Bool} {k : AlphaChannelType} {total : ℕ} {s : Alphas} {out 
         omega (arith, length-append (take s.place out) part, ap length filled, length-replicate run v, g.further) in
         let split : take s.place out ++ (part ++ drop run behind) ≡ (take s.place out ++ part) ++ drop run behind = sym (append_assoc (take s.place out) part (drop run behind)) in
         record {
-          stands = stands_on (alpha_step k) alpha_finish a.stands _ n.place n.at _ (replicate run v) (g.is (take s.place out))
+          stands = stands_on (alpha_step k) alpha_finish a.stands _ n.place n.cursor.at _ (replicate run v) (g.is (take s.place out))
               (ap (take n.place) split ∙ take_at (take s.place out ++ part) (drop run behind) n.place count ∙ ap (λ (l : List ℕ). take s.place out ++ l) filled) g.within;
           long = ap length split ∙ omega (arith, length-append (take s.place out ++ part) (drop run behind), length-drop run behind, length-drop s.place out, a.long, g.further, g.room);
           room = g.room;
@@ -123,18 +123,20 @@ module _ {B : List Bool} {k : AlphaChannelType} {total : ℕ} {s : Alphas} {out 
 
   -- no sample is left
   module _ (all : total ≤ s.place) where
-    last : from (alpha_step k) alpha_finish (difference (total - s.place) (previous_of s.prev)) (take s.place out) (drop s.at B)
-        ≡ alpha_finish (difference 0 (previous_of s.prev)) out (drop s.at B)
+    last : from (alpha_step k) alpha_finish (difference (total - s.place) (previous_of s.prev)) (take s.place out) (drop s.cursor.at B)
+        ≡ alpha_finish (difference 0 (previous_of s.prev)) out (drop s.cursor.at B)
     last =
         let none : total - s.place ≡ 0 = omega arith in
         let p : ℤ = previous_of s.prev in
         let whole : take s.place out ≡ out = take_all s.place out (omega (arith, a.long)) in
-        ap₂ (λ (i : ℕ) (t : List ℕ). from (alpha_step k) alpha_finish (difference i p) t (drop s.at B)) none whole
-        ∙ from-stop k (difference 0 p) out (drop s.at B) (step_end k p (drop s.at B))
+        ap₂ (λ (i : ℕ) (t : List ℕ). from (alpha_step k) alpha_finish (difference i p) t (drop s.cursor.at B)) none whole
+        ∙ from-stop k (difference 0 p) out (drop s.cursor.at B) (step_end k p (drop s.cursor.at B))
 
-    pub stands-end : (r : Reached) → AlphaEnds (drop s.at B) s.at r → reached_says 0 total r out ≡ settled 0 B total (decode_alpha k total B)
-    stands-end (At q) e =
-        ap (λ (i : ℕ). decoding (read i) out) e.here ∙ stands-accepts (alpha_step k) alpha_finish a.stands 0 total out (last ∙ e.is (difference 0 (previous_of s.prev)) out)
-    stands-end (Stopped why) e =
+    pub stands-done : AlphaEnds (drop s.cursor.at B) (Ok tt) → decoding (read s.cursor.at) out ≡ settled 0 B total (decode_alpha k total B)
+    stands-done e = stands-accepts (alpha_step k) alpha_finish a.stands 0 total out (last ∙ e.is (difference 0 (previous_of s.prev)) out)
+
+    pub stands-refused : (why : Refusal) → AlphaEnds (drop s.cursor.at B) (Err why) → decoding (refuse (number_of why)) (replicate total 0) ≡ settled 0 B total (decode_alpha k total B)
+    stands-refused why e =
         rejects-settled 0 B total (number_of why)
-        (stands-rejects (alpha_step k) alpha_finish a.stands (number_of why) (record { bits = drop s.at B; is = last ∙ e.is (difference 0 (previous_of s.prev)) out }))
+        (stands-rejects (alpha_step k) alpha_finish a.stands (number_of why)
+        (record { bits = drop s.cursor.at B; is = last ∙ e.is (difference 0 (previous_of s.prev)) out }))

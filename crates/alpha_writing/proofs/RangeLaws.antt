@@ -30,9 +30,14 @@ module _ (k : AlphaChannelType) (ss : List ℕ) (i : ℕ) (w : Bool) where
   unfolding samples_in_range
   range_all e h = sym (e ∙ ap (λ (l : List ℕ). w || not (samples_in_range k l)) (drop_of_length-le ss h) ∙ found_all w)
 
--- what it says of each sample
-pub get_or-in_range : (k : AlphaChannelType) (ss : List ℕ) (i : ℕ) → samples_in_range k ss ≡ true → get_or ss i 0 ≤ mask_of k
+-- what it says of the first sample, and of those behind some
+pub first-in_range : (k : AlphaChannelType) (ss : List ℕ) → samples_in_range k ss ≡ true → get_or ss 0 0 ≤ mask_of k
 unfolding samples_in_range
-get_or-in_range k [] i e = omega arith
-get_or-in_range k (s ∷ ss) zero e = leb-true s (mask_of k) (and-true (leb s (mask_of k)) (samples_in_range k ss) e).0
-get_or-in_range k (s ∷ ss) (suc i) e = get_or-in_range k ss i (and-true (leb s (mask_of k)) (samples_in_range k ss) e).1
+first-in_range k [] e = omega arith
+first-in_range k (s ∷ ss) e = leb-true s (mask_of k) (and-true (leb s (mask_of k)) (samples_in_range k ss) e).0
+
+pub range_drop : (k : AlphaChannelType) (n : ℕ) (ss : List ℕ) → samples_in_range k ss ≡ true → samples_in_range k (drop n ss) ≡ true
+unfolding samples_in_range
+range_drop k zero ss e = e
+range_drop k (suc n) [] e = e
+range_drop k (suc n) (s ∷ ss) e = range_drop k n ss (and-true (leb s (mask_of k)) (samples_in_range k ss) e).1

@@ -1,28 +1,24 @@
 -- Laws of the alpha encoder's own terms: the code from a sample on, a pair at a time, and a pair's word.
 -- Assumes nothing.
-use Prim.Native.Nat.{ℕ, ◌+◌, ◌*◌, ◌^◌, ◌≤◌, ◌<◌}
-use native.Mathlib.Numerals.{add-one}
+use Prim.Native.Nat.{ℕ, ◌+◌, ◌≤◌, ◌<◌}
 use native.Mathlib.Omega.{arith}
-use mathlib.Core.Path.{◌≡◌, refl, sym, ap, ◌∙◌}
+use mathlib.Core.Path.{◌≡◌, refl, sym, ap, ap₂, ◌∙◌}
 use mathlib.Core.Bool.{Bool, true, false, cond}
 use mathlib.Core.List.{List, [], ◌∷◌, ◌++◌, append_assoc}
 use lib.Dec.{leb, eqb}
 use lib.IntN.{ℤ, pos, negsuc, ◌-ℤ◌}
-use lib.ListN.{length, drop, get_or, length-append, drop_of_length-le}
-use lib.Seq.{drop-cons}
-use Rattle.bitstream.specs.Bits.{field}
-use Rattle.bitstream.proofs.FieldLaws.{length-field}
-use Rattle.bitstream_writer.specs.Words.{Spells}
-use Rattle.bitstream_writer.proofs.WordLaws.{word-spelt, word-length, pair-field, pair_lt}
+use lib.ListN.{length, drop, get_or}
+use Rattle.bitstream_writer.specs.declared.Word.{Word}
+use Rattle.bitstream_writer.specs.Words.{Spells, Joins, word_bits}
+use Rattle.bitstream_writer.proofs.WordLaws.{word-spelt, word-length}
 use Rattle.alpha_elements.specs.declared.AlphaChannelType.{AlphaChannelType}
 use Rattle.alpha_elements.specs.Values.{previous_of}
-use Rattle.alpha_elements.specs.Elements.{AlphaElement, run_bits, alpha_element_bits, alpha_bits, run_length, difference_element, run_elements, alpha_elements_of, encode_alpha}
+use Rattle.alpha_elements.specs.Elements.{AlphaElement, run_bits, alpha_element_bits, alpha_bits, run_length, difference_element, alpha_elements_of, encode_alpha}
 use Rattle.alpha_elements.proofs.KindLaws.{sizes}
 use Rattle.alpha_elements.proofs.ElementLaws.{run_length_lem, element-length}
 use Rattle.alpha_elements.proofs.SizeLaws.{difference-le}
 use Rattle.alpha_elements.proofs.Unique.{start-unique}
-use Rattle.alpha_writing.specs.Writing.{elements_from, code_from, pair_bits, RunAt, PairAt}
-use Rattle.alpha_writing.specs.declared.Pair.{Pair}
+use Rattle.alpha_writing.specs.Writing.{elements_from, code_from, pair_bits, RunOf}
 
 -- ---- the code from a sample on
 
@@ -37,19 +33,19 @@ code-all k (s ∷ ss) = refl
 pub code-start : (k : AlphaChannelType) (p : ℕ) (ss : List ℕ) → previous_of p ≡ negsuc 0 → code_from k p ss ≡ encode_alpha k ss
 code-start k p ss e = ap (λ (q : ℕ). code_from k q ss) (start-zero p e) ∙ code-all k ss
 
-pub code-end : (k : AlphaChannelType) (p : ℕ) (ss : List ℕ) (i : ℕ) → length ss ≤ i → code_from k p (drop i ss) ≡ []
+pub code-end : (k : AlphaChannelType) (p : ℕ) (ss : List ℕ) → length ss ≡ 0 → code_from k p ss ≡ []
 unfolding code_from elements_from alpha_bits
-code-end k p ss i h = ap (code_from k p) (drop_of_length-le ss h)
+code-end k p [] h = refl
+code-end k p (s ∷ ss) h = absurd (omega arith)
 
-pub code-pair : (k : AlphaChannelType) (p : ℕ) {ss : List ℕ} {i n : ℕ} → i < length ss → RunAt ss i n
-    → code_from k p (drop i ss) ≡ pair_bits k p (get_or ss i 0) n ++ code_from k (get_or ss i 0 + 1) (drop (i + n) ss)
+pub code-pair : (k : AlphaChannelType) (p : ℕ) {ss : List ℕ} {n : ℕ} → 0 < length ss → RunOf ss n
+    → code_from k p ss ≡ pair_bits k p (get_or ss 0 0) n ++ code_from k (get_or ss 0 0 + 1) (drop n ss)
 unfolding code_from elements_from alpha_bits alpha_element_bits pair_bits
-code-pair k p {ss} {i} {n} h r =
-    let v : ℕ = get_or ss i 0 in
+code-pair k p {ss = []} h r = absurd (omega arith)
+code-pair k p {ss = v ∷ ss} {n = n} h r =
     let d : AlphaElement = difference_element k (pos v -ℤ previous_of p) in
-    ap (code_from k p) (drop-cons ss i 0 h)
-    ∙ ap (λ (es : List AlphaElement). alpha_bits k (d ∷ es)) (ap (λ (j : ℕ). run_elements k v 1 (drop j ss)) (sym (add-one i)) ∙ r.is k)
-    ∙ sym (append_assoc (alpha_element_bits k d) (run_bits n) (code_from k (v + 1) (drop (i + n) ss)))
+    ap (λ (es : List AlphaElement). alpha_bits k (d ∷ es)) (r.is k)
+    ∙ sym (append_assoc (alpha_element_bits k d) (run_bits n) (code_from k (v + 1) (drop n (v ∷ ss))))
 
 -- ---- a pair's word
 
@@ -62,27 +58,17 @@ run_length-le n = go (eqb n 1) (leb n 16)
     go false true = omega arith
     go false false = omega arith
 
-pub run_short : (n : ℕ) {m y : ℕ} → Spells (run_bits n) m y → m ≤ 16
-run_short n r = omega (arith, word-length (word-spelt r refl), run_length_lem n, run_length-le n)
+run_short : (n : ℕ) {w : Word} → Spells (run_bits n) w.len w.bits → w.len ≤ 16
+run_short n {w} r = omega (arith, word-length (word-spelt {w = w} r refl), run_length_lem n, run_length-le n)
 
-module _ (k : AlphaChannelType) (p v n : ℕ) {l x m y : ℕ} (d : Spells (alpha_element_bits k (difference_element k (pos v -ℤ previous_of p))) l x)
-    (r : Spells (run_bits n) m y) where
-  pub pair-short : l + m ≤ 33
+-- the words of a difference and of a run
+module _ (k : AlphaChannelType) (p v n : ℕ) {d r : Word} (difference : Spells (alpha_element_bits k (difference_element k (pos v -ℤ previous_of p))) d.len d.bits)
+    (run : Spells (run_bits n) r.len r.bits) where
+  pub pair-short : d.len + r.len ≤ 33
   pair-short =
       let z : ℤ = pos v -ℤ previous_of p in
-      omega (arith, run_short n r, word-length (word-spelt d refl), element-length k (difference_element k z), difference-le k z, (sizes k).width)
+      omega (arith, run_short n run, word-length (word-spelt {w = d} difference refl), element-length k (difference_element k z), difference-le k z, (sizes k).width)
 
-  pub pair_fits : x * 2 ^ m + y < 2 ^ 56
-  pair_fits = pair_lt (word-spelt d refl) (word-spelt r refl) (omega (arith, pair-short))
-
-  pub pair_is : field (l + m) (x * 2 ^ m + y) ≡ pair_bits k p v n
+  pub pair_is : {w : Word} → Joins d r w → word_bits w ≡ pair_bits k p v n
   unfolding pair_bits
-  pair_is = pair-field (word-spelt d refl) (word-spelt r refl)
-
--- ---- a pair
-
-pub pair-length : {k : AlphaChannelType} {ss : List ℕ} {p i : ℕ} {r : Pair} → PairAt k ss p i r
-    → length (code_from k p (drop i ss)) ≡ r.len + length (code_from k r.prev (drop (i + r.run) ss))
-pair-length {k} {ss} {p} {i} {r} s =
-    let rest : List Bool = code_from k r.prev (drop (i + r.run) ss) in
-    ap length s.is ∙ length-append (field r.len r.bits) rest ∙ ap (λ (n : ℕ). n + length rest) (length-field r.len r.bits)
+  pair_is j = j.is ∙ ap₂ ◌++◌ difference.is run.is

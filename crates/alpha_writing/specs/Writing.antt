@@ -1,6 +1,6 @@
 -- The alpha encoder's own terms, in its functions' contracts: the code from a sample on, a run, and a pair of a difference and its run.
 use Rattle.std.specs.Prelude.{ℕ, ◌+◌, ◌≤◌, ◌<◌, ◌≡◌, Bool, true, List, [], ◌∷◌, ◌++◌, pos, ◌-ℤ◌, length, drop, get_or}
-use Rattle.bitstream.specs.Bits.{field}
+use Rattle.bitstream_writer.specs.Words.{word_bits}
 use Rattle.alpha_elements.specs.declared.AlphaChannelType.{AlphaChannelType}
 use Rattle.alpha_elements.specs.Kinds.{mask_of}
 use Rattle.alpha_elements.specs.Limits.{run_limit, samples_in_range}
@@ -20,31 +20,24 @@ code_from k p ss = alpha_bits k (elements_from k p ss)
 unfoldable pub pair_bits : AlphaChannelType → ℕ → ℕ → ℕ → List Bool
 pair_bits k p v n = alpha_element_bits k (difference_element k (pos v -ℤ previous_of p)) ++ run_bits n
 
--- no run from sample i on passes e, and one that reaches it ends there
-pub record RunStop (count i e : ℕ) : Type 0 where
-  pub some : i < e
-  pub inside : e ≤ count
-  pub most : e ≤ i + run_limit
-  pub ends : e < count → e ≡ i + run_limit
-
--- from sample i on, n samples are a run, and the next one, if there is one, begins another
-pub record RunAt (ss : List ℕ) (i n : ℕ) : Type 0 where
+-- the first n samples are a run, and the next one, if there is one, begins another
+pub record RunOf (ss : List ℕ) (n : ℕ) : Type 0 where
   pub some : 1 ≤ n
   pub most : n ≤ run_limit
-  pub inside : i + n ≤ length ss
+  pub inside : n ≤ length ss
   pub is : (k : AlphaChannelType)
-      → run_elements k (get_or ss i 0) 1 (drop (i + 1) ss) ≡ alpha_run_element n ∷ elements_from k (get_or ss i 0 + 1) (drop (i + n) ss)
+      → run_elements k (get_or ss 0 0) 1 (drop 1 ss) ≡ alpha_run_element n ∷ elements_from k (get_or ss 0 0 + 1) (drop n ss)
 
--- sample i is there, and p may be carried
-pub record SampleDue (k : AlphaChannelType) (ss : List ℕ) (p i : ℕ) : Type 0 where
+-- samples are left, and p may be carried
+pub record SamplesDue (k : AlphaChannelType) (ss : List ℕ) (p : ℕ) : Type 0 where
   pub small : samples_in_range k ss ≡ true
   pub carried : p ≤ mask_of k + 1
-  pub inside : i < length ss
+  pub some : 0 < length ss
 
 -- the pair r writes the next difference and its run; what follows is the code from there on
-pub record PairAt (k : AlphaChannelType) (ss : List ℕ) (p i : ℕ) (r : Pair) : Type 0 where
+pub record PairOf (k : AlphaChannelType) (ss : List ℕ) (p : ℕ) (r : Pair) : Type 0 where
   pub some : 1 ≤ r.run
-  pub inside : i + r.run ≤ length ss
+  pub inside : r.run ≤ length ss
   pub carried : r.prev ≤ mask_of k + 1
-  pub short : r.len ≤ 33
-  pub is : code_from k p (drop i ss) ≡ field r.len r.bits ++ code_from k r.prev (drop (i + r.run) ss)
+  pub short : r.word.len ≤ 33
+  pub is : code_from k p ss ≡ word_bits r.word ++ code_from k r.prev (drop r.run ss)

@@ -3,7 +3,6 @@ pub mod BitsLaws
 pub mod BytesLaws
 pub mod WrittenLaws
 pub mod PutLaws
-pub mod DoingLaws
 pub mod ReadLaws
 pub mod AnswerLaws
 pub mod PlaceLaws

@@ -1,6 +1,6 @@
 -- What stands at a bit position of a payload: a bit, a field, the end of data.
 -- Assumes nothing.
-use mathlib.Core.Path.{◌≡◌, refl, sym, ap, ap₂, ◌∙◌}
+use mathlib.Core.Path.{◌≡◌, refl, sym, ap, ap₂, ◌∙◌, subst}
 use mathlib.Core.Bool.{Bool, true, false, ◌&&◌}
 use mathlib.Core.List.{List, [], ◌∷◌, ◌++◌}
 use Prim.Native.Nat.{ℕ, zero, suc, ◌+◌, ◌-◌, ◌*◌, ◌/◌, ◌%◌, ◌^◌, ◌≤◌, ◌<◌}
@@ -10,13 +10,14 @@ use native.Mathlib.Omega.{arith}
 use lib.Dec.{eqb}
 use lib.Pow.{pow_pos, pow_mono, shl-shr, shr-shr}
 use mir.Val.{bool_byte}
-use lib.ListN.{length, get_or, take, drop, length-drop, length-take, take-append-drop, drop_of_length-le, get_or-append}
+use lib.ListN.{length, get_or, take, drop, length-drop, take-append-drop, drop_of_length-le, get_or-append}
 use lib.Seq.{drop-cons, drop-drop, drop-append-le, take-append-le, take-suc, get_or-drop, length-take-le}
 use borrow.Author.Tests.{ne_eqb}
+use Rattle.std.specs.List.{list_all}
 use Rattle.common.proofs.Numbers.{shl-mod}
 use Rattle.bitstream.specs.Windows.{word_at, shown, Shows}
 use Rattle.bitstream.specs.Bits.{odd, val, field, number, bits_of, zeros, ended}
-use Rattle.bitstream.proofs.FieldLaws.{length-field, drop-field, get_or-field, number-field, number_lt, number_append, number-take, number-drop, number-take-lt, number-take-more}
+use Rattle.bitstream.proofs.FieldLaws.{length-field, drop-field, get_or-field, number-field, number_append, number-take, number-drop, number-take-lt, number-take-more}
 use Rattle.bitstream.proofs.BitsLaws.{length-bits, bits-append, bits-drop}
 
 -- ---- a bit
@@ -105,10 +106,31 @@ load-more s i j h small =
     ∙ ap₂ (λ (x y : ℕ). number (bits_of (take j (drop i s))) * 2 ^ x + y) (length-bits (b ∷ []))
     (number_append (field 8 b) [] ∙ omega (arith, number-field 8 b, mod-eq_of_lt {n = get_or s (i + j) 0} {m = 256} small))
 
-pub load_lt : (s : List ℕ) (i j : ℕ) → j < 8 → number (bits_of (take j (drop i s))) < 2 ^ 56
-load_lt s i j h =
-    let l : length (bits_of (take j (drop i s))) ≤ 56 = omega (arith, length-bits (take j (drop i s)), length-take j (drop i s)) in
-    lt_of_lt_of_le (number_lt (bits_of (take j (drop i s)))) (pow_mono {j = 56} l)
+-- eight of them, as `from_be_bytes` adds them up
+pub load-eight : (s : List ℕ) (i : ℕ) → i + 8 ≤ length s → ((k : ℕ) → get_or s k 0 < 256)
+    → number (bits_of (take 8 (drop i s)))
+    ≡ get_or s i 0 * 2 ^ 56 + get_or s (i + 1) 0 * 2 ^ 48 + get_or s (i + 2) 0 * 2 ^ 40 + get_or s (i + 3) 0 * 2 ^ 32 + get_or s (i + 4) 0 * 2 ^ 24
+    + get_or s (i + 5) 0 * 2 ^ 16
+    + get_or s (i + 6) 0 * 2 ^ 8
+    + get_or s (i + 7) 0
+unfolding bits_of number
+load-eight s i h small =
+    let none : number (bits_of (take 0 (drop i s))) ≡ 0 = refl in
+    let here : get_or s (i + 0) 0 ≡ get_or s i 0 = ap (λ (k : ℕ). get_or s k 0) (omega arith) in
+    let more = λ (j : ℕ) (l : i + j < length s). load-more s i j l (small (i + j)) in
+    omega (
+      arith,
+      none,
+      here,
+      more 0 (omega arith),
+      more 1 (omega arith),
+      more 2 (omega arith),
+      more 3 (omega arith),
+      more 4 (omega arith),
+      more 5 (omega arith),
+      more 6 (omega arith),
+      more 7 (omega arith),
+    )
 
 -- a word of eight bytes, without its first k bits
 number-high : (w : List Bool) (k : ℕ) → length w ≡ 64 → k ≤ 64 → (number w * 2 ^ k) % 2 ^ 64 ≡ number (drop k w) * 2 ^ k
@@ -187,22 +209,14 @@ pub ended-past : (s : List ℕ) (p : ℕ) → length s ≤ p / 8 → ended (drop
 unfolding ended
 ended-past s p h = let l : length (bits_of s) ≤ p = omega (arith, length-bits s) in ap ended (drop_of_length-le (bits_of s) l)
 
--- byte by byte, from byte j on
-module _ (s : List ℕ) (j : ℕ) where
-  ended-byte : j < length s → ended (bits_of (drop j s)) ≡ (eqb (get_or s j 0 % 2 ^ 8) 0 && ended (bits_of (drop (j + 1) s)))
-  unfolding bits_of
-  ended-byte h =
-      ap (λ (l : List ℕ). ended (bits_of l)) (drop-cons s j 0 h ∙ ap (λ (n : ℕ). get_or s j 0 ∷ drop n s) (sym (add-one j)))
-      ∙ ended-append (field 8 (get_or s j 0)) (bits_of (drop (j + 1) s))
-      ∙ ap (λ (b : Bool). b && ended (bits_of (drop (j + 1) s))) (ended-field 8 (get_or s j 0))
+-- so bytes have ended where all are 0
+ended_bytes : (s : List ℕ) → ((k : ℕ) → get_or s k 0 < 256) → list_all (λ b. eqb b 0) s ≡ ended (bits_of s)
+unfolding bits_of ended
+ended_bytes [] small = refl
+ended_bytes (b ∷ s) small =
+    let whole : b % 2 ^ 8 ≡ b = mod-eq_of_lt (small 0) in
+    sym (ended-append (field 8 b) (bits_of s)
+    ∙ ap₂ (λ (x y : Bool). x && y) (ended-field 8 b ∙ ap (λ (n : ℕ). eqb n 0) whole) (sym (ended_bytes s (λ k. small (suc k)))))
 
-  pub ended_some : j < length s → get_or s j 0 < 256 → (get_or s j 0 ≡ 0 → ⊥) → ended (bits_of (drop j s)) ≡ false
-  ended_some h small n =
-      ended-byte h ∙ ap (λ (b : Bool). b && ended (bits_of (drop (j + 1) s))) (ne_eqb (get_or s j 0 % 2 ^ 8) 0 (λ z. n (sym (mod-eq_of_lt small) ∙ z)))
-
-  pub ended-none : j < length s → get_or s j 0 ≡ 0 → ended (bits_of (drop j s)) ≡ ended (bits_of (drop (j + 1) s))
-  ended-none h z = ended-byte h ∙ ap (λ (x : ℕ). eqb (x % 2 ^ 8) 0 && ended (bits_of (drop (j + 1) s))) z
-
-  pub ended-out : length s ≤ j → ended (bits_of (drop j s)) ≡ true
-  unfolding bits_of ended
-  ended-out h = ap (λ (l : List ℕ). ended (bits_of l)) (drop_of_length-le s h)
+pub ended_all : (s : List ℕ) (i : ℕ) → ((k : ℕ) → get_or s k 0 < 256) → list_all (λ b. eqb b 0) (drop i s) ≡ ended (bits_of (drop i s))
+ended_all s i small = ended_bytes (drop i s) (λ k. subst (λ (b : ℕ). b < 256) (sym (get_or-drop i s k 0)) (small (i + k)))

@@ -9,20 +9,24 @@ use Rattle.bitstream.specs.Bits.{bits_of, ended}
 use Rattle.bitstream.specs.Reading.{read_bits, zero_prefix}
 use Rattle.bitstream.specs.Told.{Outcome, gives, refusal, told_read, outcome_at}
 use Rattle.bitstream.specs.declared.Cursor.{Cursor}
-use Rattle.bitstream.specs.declared.Read.{Read}
-use Rattle.bitstream.specs.declared.Read.TheVariants.{Value, No}
+use Rattle.answers.specs.declared.Refusal.{Refusal}
+use Rattle.std.specs.Prelude.{Result, Ok, Err}
 use Rattle.answers.proofs.Unique.{refusal_of, refusal_of-number}
 
 -- ---- what an answer says tells the answer
 
+-- a read's answer
+abbrev pub Read : Type 0
+Read = Result (ℕ × Cursor) Refusal
+
 answer_of : Outcome → Read
-answer_of (gives v p) = Value v (record { at = p })
-answer_of (refusal k) = No (refusal_of k)
+answer_of (gives v p) = Ok (v, record { at = p })
+answer_of (refusal k) = Err (refusal_of k)
 
 answer_of-told : (r : Read) → answer_of (told_read r) ≡ r
 unfolding answer_of
-answer_of-told (Value v c) = refl
-answer_of-told (No r) = ap No (refusal_of-number r)
+answer_of-told (Ok (v, c)) = refl
+answer_of-told (Err why) = ap Err (refusal_of-number why)
 
 pub told_read-once : (x : Outcome) {r r' : Read} → told_read r ≡ x → told_read r' ≡ x → r ≡ r'
 told_read-once x {r} {r'} e f = sym (answer_of-told r) ∙ ap answer_of (e ∙ sym f) ∙ answer_of-told r'

@@ -13,12 +13,6 @@ pub record Puts (buf : List ℕ) (p : ℕ) (bits : List Bool) (buf' : List ℕ) 
   pub next : p' ≡ p + length bits
   pub held : (old : List ℕ) (bs : List Bool) → Holds old bs buf p → Holds old (bs ++ bits) buf' p'
 
--- from the buffer e and the bit p, the code whole is being written: buf and at are where it stands, and rest is to come
-pub record Doing (e : List ℕ) (p : ℕ) (whole : List Bool) (buf : List ℕ) (at : ℕ) (rest : List Bool) : Type 0 where
-  pub done : List Bool
-  pub join : done ++ rest ≡ whole
-  pub puts : Puts e p done buf at
-
 -- what a lent buffer holds once a code is written from byte i on
 unfoldable pub stored_from : List ℕ → ℕ → List Bool → List ℕ
 stored_from old i bits = take i old ++ stored (drop i old) bits

@@ -1,10 +1,10 @@
 -- What the answers of the code say, by document 01's numbers ("Refusal numbers"), and what they are to say.
-use Rattle.std.specs.Prelude.{ℕ, ◌+◌, ◌-◌, ◌≤◌, Bool, cond, List, leb, length, drop}
+use Rattle.std.specs.Prelude.{ℕ, ◌+◌, ◌-◌, ◌≤◌, Bool, cond, List, leb, length, drop, Result, Ok, Err}
 use Rattle.bitstream.specs.Bits.{bits_of}
 use Rattle.answers.specs.Reading.{Parsed, got, refused, Reader}
 use Rattle.answers.specs.Refusals.{number_of}
-use Rattle.bitstream.specs.declared.Read.{Read}
-use Rattle.bitstream.specs.declared.Read.TheVariants.{Value, No}
+use Rattle.answers.specs.declared.Refusal.{Refusal}
+use Rattle.bitstream.specs.declared.Cursor.{Cursor}
 
 -- a payload to decode has at most this many bytes
 abbrev pub payload_limit : ℕ
@@ -20,9 +20,9 @@ pub data Outcome : Type 0 where
   gives : ℕ → ℕ → Outcome
   refusal : ℕ → Outcome
 
-abbrev pub told_read : Read → Outcome
-told_read (Value v c) = gives v c.at
-told_read (No r) = refusal (number_of r)
+abbrev pub told_read : Result (ℕ × Cursor) Refusal → Outcome
+told_read (Ok (v, c)) = gives v c.at
+told_read (Err why) = refusal (number_of why)
 
 -- reading began at bit p, where bs was unread
 abbrev pub outcome : ℕ → List Bool → Parsed → Outcome

@@ -1,15 +1,10 @@
 // What stands at a bit position of a payload.
-ghost use Rattle.std.specs.Prelude.{◌≡◌, false, ◌-◌, ◌*◌, ◌%◌, ◌≤◌, ◌<◌, length, get_or, take, drop};
+ghost use Rattle.std.specs.Prelude.{◌≡◌, false, ◌-◌, ◌*◌, ◌%◌, ◌≤◌, ◌<◌, length, get_or, take, drop, ◌==◌};
+ghost use Rattle.std.specs.List.{list_all};
 ghost use Rattle.bitstream.specs.Bits.{bits_of, number, ended};
 ghost use Rattle.bitstream.specs.Told.{payload_limit};
 
 use crate::windows;
-
-pub fn wide(x: u8) -> u64
-    ensures { result ≡ x }
-{
-    x as u64
-}
 
 // How far bit p stands from its byte's low end: the most significant bit comes first.
 fn place(p: usize) -> u32
@@ -23,8 +18,8 @@ pub fn bit(payload: &[u8], p: usize) -> bool
     requires { p < 8 * length payload.now }
     ensures { result ≡ get_or (bits_of payload.now) p false }
 {
-    let b = wide(payload[p / 8]);
-    (b / common::pow2(place(p))) % 2 == 1
+    let byte = u64::from(payload[p / 8]);
+    (byte / common::pow2(place(p))) % 2 == 1
 }
 
 // How many bits are unread at p.
@@ -32,11 +27,7 @@ pub fn unread(payload: &[u8], p: usize) -> usize
     requires { length payload.now ≤ payload_limit }
     ensures { result ≡ length (drop p (bits_of payload.now)) }
 {
-    let end = payload.len() * 8;
-    if p < end {
-        return end - p;
-    }
-    0
+    (payload.len() * 8).saturating_sub(p)
 }
 
 // The field, bit by bit: what is left to it is a payload's last eight bytes.
@@ -44,11 +35,9 @@ fn field_plain(payload: &[u8], p: usize, n: usize) -> u64
     requires { (length payload.now ≤ payload_limit) × (n ≤ 32) × (n ≤ length (drop p (bits_of payload.now))) }
     ensures { result ≡ number (take n (drop p (bits_of payload.now))) }
 {
-    let mut v: u64 = 0;
-    let mut i: usize = 0;
-    while i < n {
-        v = v * 2 + (bit(payload, p + i) as u64);
-        i += 1;
+    let mut v = 0;
+    for i in 0..n {
+        v = v * 2 + u64::from(bit(payload, p + i));
     }
     v
 }
@@ -66,17 +55,10 @@ pub fn field_at(payload: &[u8], p: usize, n: u32) -> u32
 }
 
 // Whether every byte from i on is zero.
-pub fn zero_from(payload: &[u8], i: usize) -> bool
-    ensures { result ≡ ended (bits_of (drop i payload.now)) }
+fn zero_from(payload: &[u8], i: usize) -> bool
+    ensures { result ≡ list_all (λ b. b == 0) (drop i payload.now) }
 {
-    let mut j = i;
-    while j < payload.len() {
-        if payload[j] != 0 {
-            return false;
-        }
-        j += 1;
-    }
-    true
+    payload.iter().skip(i).all(|byte| *byte == 0)
 }
 
 // Whether no 1 stands at p or behind it: the rest of p's byte, then byte by byte.
@@ -87,7 +69,7 @@ pub fn ended_at(payload: &[u8], p: usize) -> bool
     if payload.len() <= i {
         return true;
     }
-    if wide(payload[i]) % common::pow2((8 - p % 8) as u32) != 0 {
+    if u64::from(payload[i]) % common::pow2((8 - p % 8) as u32) != 0 {
         return false;
     }
     zero_from(payload, i + 1)

@@ -21,32 +21,20 @@ pub struct Cursor {
     pub at: usize,
 }
 
-#[derive(Clone, Copy)]
-pub enum Read {
-    Value { value: u32, next: Cursor },
-    No(Refusal),
-}
-
 // The zeros before the next 1 from p on.
-fn zeros_at(payload: &[u8], p: usize, cap: usize) -> Read
+fn zeros_at(payload: &[u8], p: usize, cap: usize) -> Result<(u32, Cursor), Refusal>
     requires { length payload.now ≤ payload_limit }
     ensures { told_read result ≡ outcome p (drop p (bits_of payload.now)) (zero_prefix cap (drop p (bits_of payload.now))) }
 {
-    let end = payload.len() * 8;
-    let mut at = p;
-    while at < end {
+    for at in p..payload.len() * 8 {
         if fields::bit(payload, at) {
-            return Read::Value {
-                value: (at - p) as u32,
-                next: Cursor { at: at + 1 },
-            };
+            return Ok(((at - p) as u32, Cursor { at: at + 1 }));
         }
         if cap <= at - p {
-            return Read::No(Refusal::Codeword);
+            return Err(Refusal::Codeword);
         }
-        at += 1;
     }
-    Read::No(Refusal::Short)
+    Err(Refusal::Short)
 }
 
 impl Cursor {
@@ -57,38 +45,35 @@ impl Cursor {
     }
 
     // The next n bits as a number. More than 32 are refused as a bad codeword, before any of them is read.
-    pub fn read_bits(self, payload: &[u8], n: u32) -> Read
+    pub fn read_bits(self, payload: &[u8], n: u32) -> Result<(u32, Cursor), Refusal>
         ensures { told_read result ≡ outcome_at (read_bits n) payload.now self.at }
     {
         let at = self.at;
         if PAYLOAD_LIMIT < payload.len() {
-            return Read::No(Refusal::Limit);
+            return Err(Refusal::Limit);
         }
         if 32 < n {
-            return Read::No(Refusal::Codeword);
+            return Err(Refusal::Codeword);
         }
         let width = n as usize;
         if fields::unread(payload, at) < width {
-            return Read::No(Refusal::Short);
+            return Err(Refusal::Short);
         }
-        Read::Value {
-            value: fields::field_at(payload, at, n),
-            next: Cursor { at: at + width },
-        }
+        Ok((fields::field_at(payload, at, n), Cursor { at: at + width }))
     }
 
-    pub fn read_bit(self, payload: &[u8]) -> Read
+    pub fn read_bit(self, payload: &[u8]) -> Result<(u32, Cursor), Refusal>
         ensures { told_read result ≡ outcome_at (read_bits 1) payload.now self.at }
     {
         self.read_bits(payload, 1)
     }
 
     // How many zeros stand before the next 1, which is read too; the zero after the first cap of them is refused.
-    pub fn zero_prefix(self, payload: &[u8], cap: u32) -> Read
+    pub fn zero_prefix(self, payload: &[u8], cap: u32) -> Result<(u32, Cursor), Refusal>
         ensures { told_read result ≡ outcome_at (zero_prefix cap) payload.now self.at }
     {
         if PAYLOAD_LIMIT < payload.len() {
-            return Read::No(Refusal::Limit);
+            return Err(Refusal::Limit);
         }
         zeros_at(payload, self.at, cap as usize)
     }

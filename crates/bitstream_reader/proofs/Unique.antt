@@ -6,8 +6,7 @@ use mathlib.Core.List.{List}
 use denote.Ref.{Bor}
 use Rattle.answers.specs.Reading.{Reader}
 use Rattle.bitstream.specs.Told.{Outcome, told_read}
-use Rattle.bitstream.specs.declared.Read.{Read}
-use Rattle.bitstream.proofs.Unique.{told_read-once}
+use Rattle.bitstream.proofs.Unique.{Read, told_read-once}
 use Rattle.bitstream_reader.specs.Readers.{outcome_from, advanced}
 use Rattle.bitstream_reader.specs.declared.BitReader.{BitReader}
 use Rattle.bitstream_reader.specs.declared.Fields.{Fields}

@@ -6,24 +6,15 @@ ghost use Rattle.std.specs.Prelude.{◌≡◌, drop};
 ghost use Rattle.bitstream.specs.Bits.{bits_of, ended};
 ghost use Rattle.bitstream.specs.Reading.{read_bits};
 ghost use Rattle.bitstream.specs.Told.{told_read, outcome_at};
-ghost use Rattle.bitstream_reader.specs.Readers.{next_of, outcome_from, advanced, second_at};
+ghost use Rattle.bitstream_reader.specs.Readers.{outcome_from, advanced, second_at};
 
-use bitstream::{Cursor, Read};
+use answers::Refusal;
+use bitstream::Cursor;
 
 #[derive(Clone, Copy)]
 pub struct BitReader<'a> {
     payload: &'a [u8],
     at: usize,
-}
-
-// Where a reader that stood at bit p stands after an answer.
-fn next(p: usize, answer: Read) -> usize
-    ensures { result ≡ next_of p (told_read answer) }
-{
-    match answer {
-        Read::Value { value: _, next } => next.at,
-        Read::No(_) => p,
-    }
 }
 
 impl<'a> BitReader<'a> {
@@ -40,16 +31,15 @@ impl<'a> BitReader<'a> {
     }
 
     // The next n bits as a number. Where they are refused, the reader stays where it was.
-    pub fn read_bits(&mut self, n: u32) -> Read
+    pub fn read_bits(&mut self, n: u32) -> Result<(u32, Cursor), Refusal>
         ensures { (told_read result ≡ outcome_from (read_bits n) self.old) × (self.new ≡ advanced (read_bits n) self.old) }
     {
-        let cursor = Cursor { at: self.at };
-        let answer = cursor.read_bits(self.payload, n);
-        self.at = next(self.at, answer);
-        answer
+        let (value, next) = Cursor { at: self.at }.read_bits(self.payload, n)?;
+        self.at = next.at;
+        Ok((value, next))
     }
 
-    pub fn read_bit(&mut self) -> Read
+    pub fn read_bit(&mut self) -> Result<(u32, Cursor), Refusal>
         ensures { (told_read result ≡ outcome_from (read_bits 1) self.old) × (self.new ≡ advanced (read_bits 1) self.old) }
     {
         self.read_bits(1)
@@ -59,16 +49,15 @@ impl<'a> BitReader<'a> {
     pub fn end_of_data(&self) -> bool
         ensures { result ≡ ended (drop self.now.at (bits_of self.now.payload.now)) }
     {
-        let cursor = Cursor { at: self.at };
-        cursor.end_of_data(self.payload)
+        Cursor { at: self.at }.end_of_data(self.payload)
     }
 }
 
 // The answers of two reads, each with the bit after it.
 #[derive(Clone, Copy)]
 pub struct Fields {
-    pub first: Read,
-    pub second: Read,
+    pub first: Result<(u32, Cursor), Refusal>,
+    pub second: Result<(u32, Cursor), Refusal>,
 }
 
 // The payload's first field, of n bits, and the one of m bits behind it. Where the first is refused, the second is read in its place.

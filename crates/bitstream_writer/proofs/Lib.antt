@@ -1,2 +1,3 @@
+pub mod PassLaws
 pub mod WordLaws
 pub mod Unique

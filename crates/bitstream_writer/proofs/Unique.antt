@@ -9,7 +9,8 @@ use lib.ListN.{length}
 use Rattle.bitstream.specs.Bits.{field, number}
 use Rattle.bitstream.specs.Bytes.{bytes_for, put_at}
 use Rattle.bitstream.proofs.FieldLaws.{length-field, number-field}
-use Rattle.bitstream_writer.specs.Words.{Spells, OneMore}
+use Rattle.bitstream_writer.specs.declared.Word.{Word}
+use Rattle.bitstream_writer.specs.Words.{Spells, OneMore, Joins}
 
 -- put, words::put_word
 pub put-unique : (buf : List ℕ) (p n v r r' : ℕ) (b b' : List ℕ) → r ≡ p + n → r' ≡ p + n → b ≡ put_at buf p (field n v) → b' ≡ put_at buf p (field n v)
@@ -35,4 +36,11 @@ pub with-bit-unique : (len value : ℕ) (bit : Bool) {n n' v v' : ℕ} → OneMo
 with-bit-unique len value bit {n} {n'} {v} {v'} a b = (
   a.count ∙ sym b.count,
   spelled-value _ n v a.is a.fits ∙ sym (spelled-value _ n' v' b.is b.fits),
+)
+
+-- words::join
+pub join-unique : (a b : Word) {w w' : Word} → Joins a b w → Joins a b w' → (w.len ≡ w'.len) × (w.bits ≡ w'.bits)
+join-unique a b {w} {w'} x y = (
+  x.count ∙ sym y.count,
+  spelled-value _ w.len w.bits x.is x.fits ∙ sym (spelled-value _ w'.len w'.bits y.is y.fits),
 )

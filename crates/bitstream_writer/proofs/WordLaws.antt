@@ -13,7 +13,8 @@ use Rattle.bitstream.specs.Bytes.{put_at}
 use Rattle.bitstream.specs.Puts.{Puts}
 use Rattle.bitstream.proofs.FieldLaws.{val-lt, length-field, field-join, field-zero, field-widen}
 use Rattle.bitstream.proofs.PutLaws.{put-put, puts-at}
-use Rattle.bitstream_writer.specs.Words.{Spells, OneMore, WordOf}
+use Rattle.bitstream_writer.specs.declared.Word.{Word}
+use Rattle.bitstream_writer.specs.Words.{Spells, OneMore, WordOf, IsWord, Joins, word_bits}
 
 -- ---- z zeros, a 1 and w bits more are one field
 
@@ -68,36 +69,32 @@ put-wide buf p n m v h small =
 
 -- ---- words that put_word takes
 
-pub word-spelt : {bs bs' : List Bool} {n v : ℕ} → Spells bs n v → bs ≡ bs' → WordOf bs' n v
-word-spelt w e = record { is = w.is ∙ e; fits = w.fits; small = omega (arith, w.small); short = omega (arith, w.short) }
+module _ {bs : List Bool} {w : Word} where
+  pub word-spelt : {bs' : List Bool} → Spells bs w.len w.bits → bs ≡ bs' → WordOf bs' w
+  word-spelt s e = record { is = s.is ∙ e; fits = s.fits; small = omega (arith, s.small); short = omega (arith, s.short) }
 
-pub word_more : {bs : List Bool} {b : Bool} {n v n' v' : ℕ} → Spells bs n v → OneMore n v b n' v' → WordOf (bs ++ (b ∷ [])) n' v'
-word_more {b = b} w m =
-    record {
-      is = m.is ∙ ap (λ (l : List Bool). l ++ (b ∷ [])) w.is;
-      fits = m.fits;
-      small = m.small;
-      short = omega (arith, m.count, w.short);
-    }
+  pub word-length : WordOf bs w → length bs ≡ w.len
+  word-length s = ap length (sym s.is) ∙ length-field w.len w.bits
 
-pub word-length : {bs : List Bool} {n v : ℕ} → WordOf bs n v → length bs ≡ n
-word-length {n = n} {v = v} w = ap length (sym w.is) ∙ length-field n v
+  pub is_word : WordOf bs w → IsWord w
+  is_word s = record { is = refl; fits = s.fits; small = s.small; short = s.short }
 
-pub puts_word : {e e' : List ℕ} {p p' n v : ℕ} {bs : List Bool} → WordOf bs n v → p' ≡ p + n → e' ≡ put_at e p (field n v) → Puts e p bs e' p'
-puts_word {e = e} {p = p} w a b = puts-at (omega (arith, word-length w)) (b ∙ ap (put_at e p) w.is)
+pub puts_word : {e e' : List ℕ} {p p' : ℕ} (w : Word) → p' ≡ p + w.len → e' ≡ put_at e p (word_bits w) → Puts e p (word_bits w) e' p'
+puts_word w a b = puts-at (omega (arith, length-field w.len w.bits)) b
 
--- two words, and both in one
-module _ {xs bs : List Bool} {n v m w : ℕ} (a : WordOf xs n v) (b : WordOf bs m w) where
-  pub pair-field : field (n + m) (v * 2 ^ m + w) ≡ xs ++ bs
-  pair-field = sym (field-join n m v w b.fits) ∙ ap₂ ◌++◌ a.is b.is
+-- ---- two words, and both in one
 
-  pair-length : length (xs ++ bs) ≡ n + m
-  pair-length = length-append xs bs ∙ ap₂ ◌+◌ (word-length a) (word-length b)
+module _ (a b : Word) (fa : a.bits < 2 ^ a.len) (fb : b.bits < 2 ^ b.len) where
+  joined_lt : a.bits * 2 ^ b.len + b.bits < 2 ^ (a.len + b.len)
+  joined_lt =
+      let top : suc a.bits * 2 ^ b.len ≤ 2 ^ a.len * 2 ^ b.len = mul-le-mul_right (2 ^ b.len) fa in
+      omega (arith, fb, pow-add 2 a.len b.len)
 
-  pub pair_lt : n + m ≤ 56 → v * 2 ^ m + w < 2 ^ 56
-  pair_lt h =
-      let top : suc v * 2 ^ m ≤ 2 ^ n * 2 ^ m = mul-le-mul_right (2 ^ m) a.fits in
-      omega (arith, b.fits, pow-add 2 n m, pow_mono {i = n + m} {j = 56} h)
+  pub joined_short : a.len + b.len ≤ 56 → a.bits * 2 ^ b.len + b.bits < 2 ^ 56
+  joined_short h = omega (arith, joined_lt, pow_mono {i = a.len + b.len} {j = 56} h)
 
-  pub puts-pair : {e e' : List ℕ} {p p' : ℕ} → p' ≡ p + (n + m) → e' ≡ put_at e p (field (n + m) (v * 2 ^ m + w)) → Puts e p (xs ++ bs) e' p'
-  puts-pair {e = e} {p = p} x y = puts-at (omega (arith, pair-length)) (y ∙ ap (put_at e p) pair-field)
+  pub joins_lem : Joins a b (record { len = a.len + b.len; bits = a.bits * 2 ^ b.len + b.bits })
+  joins_lem = record { is = sym (field-join a.len b.len a.bits b.bits fb); count = refl; fits = joined_lt }
+
+pub pair-length : (a b : Word) → length (word_bits a ++ word_bits b) ≡ a.len + b.len
+pair-length a b = length-append (word_bits a) (word_bits b) ∙ ap₂ ◌+◌ (length-field a.len a.bits) (length-field b.len b.bits)

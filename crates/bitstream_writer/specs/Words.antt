@@ -1,6 +1,7 @@
 -- A run of bits as one field: the len low bits of a number.
 use Rattle.std.specs.Prelude.{ℕ, ◌+◌, ◌^◌, ◌≤◌, ◌<◌, ◌≡◌, Bool, List, [], ◌∷◌, ◌++◌}
 use Rattle.bitstream.specs.Bits.{field}
+use Rattle.bitstream_writer.specs.declared.Word.{Word}
 
 -- value has its 1 within 33 bits, and all in front of it are zeros
 pub record Spells (bits : List Bool) (len value : ℕ) : Type 0 where
@@ -16,12 +17,22 @@ pub record OneMore (len value : ℕ) (bit : Bool) (len' value' : ℕ) : Type 0 w
   pub fits : value' < 2 ^ len'
   pub small : value' < 2 ^ 34
 
--- the bits are the len low bits of value, which words::put_word takes
-pub record WordOf (bits : List Bool) (len value : ℕ) : Type 0 where
-  pub is : field len value ≡ bits
-  pub fits : value < 2 ^ len
-  pub small : value < 2 ^ 34
-  pub short : len ≤ 69
+-- a word's bits
+abbrev pub word_bits : Word → List Bool
+word_bits w = field w.len w.bits
 
-abbrev pub IsWord : ℕ → ℕ → Type 0
-IsWord len value = WordOf (field len value) len value
+-- the bits are those of w, which words::put_word takes
+pub record WordOf (bits : List Bool) (w : Word) : Type 0 where
+  pub is : word_bits w ≡ bits
+  pub fits : w.bits < 2 ^ w.len
+  pub small : w.bits < 2 ^ 34
+  pub short : w.len ≤ 69
+
+abbrev pub IsWord : Word → Type 0
+IsWord w = WordOf (word_bits w) w
+
+-- the word w is that of a with that of b behind it
+pub record Joins (a b w : Word) : Type 0 where
+  pub is : word_bits w ≡ word_bits a ++ word_bits b
+  pub count : w.len ≡ a.len + b.len
+  pub fits : w.bits < 2 ^ w.len

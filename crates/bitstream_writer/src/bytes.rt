@@ -10,10 +10,10 @@ pub fn begun(buf: &[u8], at: usize) -> u64
 {
     let r = at % 8;
     if r == 0 {
-        return 0;
+        0
+    } else {
+        u64::from(buf[at / 8]) >> (8 - r)
     }
-    let i = at / 8;
-    (buf[i] as u64) >> (8 - r)
 }
 
 // A byte of the code, over whatever stood there.
@@ -29,14 +29,13 @@ pub fn emit(buf: &mut [u8], i: usize, word: u64, n: u32)
     requires { (n ≤ 64) × (8 * i + n ≤ 8 * length buf.old) }
     ensures { buf.new ≡ stored_from buf.old i (field n word) }
 {
-    let mut j = i;
     let mut left = n;
-    while 8 <= left {
+    let last = i + (n / 8) as usize;
+    for j in i..last {
         left -= 8;
         store(buf, j, (word >> left) % 256);
-        j += 1;
     }
     if 0 < left {
-        store(buf, j, (word << (8 - left)) % 256);
+        store(buf, last, (word << (8 - left)) % 256);
     }
 }

@@ -5,7 +5,9 @@ ghost use Rattle.std.specs.Prelude.{◌≡◌, ◌+◌, ◌*◌, ◌^◌, ◌≤
 ghost use Rattle.bitstream.specs.Bits.{field};
 ghost use Rattle.bitstream.specs.Bytes.{put_at, bytes_for};
 
+pub mod codes; // a whole code, where there is room
 mod bytes; // whole bytes into a buffer
+pub mod passes; // counting a code's words, or writing them
 pub mod words; // a field longer than one put takes
 
 // A field as a value: the len low bits of bits.
@@ -32,5 +34,5 @@ pub fn align_byte(at: usize) -> usize
     requires { at < 2 ^ 63 }
     ensures { result ≡ 8 * bytes_for at }
 {
-    (at + 7) / 8 * 8
+    at.next_multiple_of(8)
 }

@@ -1,9 +1,8 @@
 // A field that may be longer than one `put` takes: a codeword, whose 1 is within its 33 low bits, with a sign behind it perhaps. What is in front of its
 // 34 low bits is all zeros.
 ghost use Rattle.std.specs.Prelude.{◌≡◌, ◌+◌, ◌*◌, ◌^◌, ◌≤◌, ◌<◌, length};
-ghost use Rattle.bitstream.specs.Bits.{field};
 ghost use Rattle.bitstream.specs.Bytes.{put_at};
-ghost use Rattle.bitstream_writer.specs.Words.{OneMore};
+ghost use Rattle.bitstream_writer.specs.Words.{OneMore, word_bits, IsWord, Joins};
 
 use crate::Word;
 
@@ -14,19 +13,31 @@ pub fn with_bit(w: Word, bit: bool) -> Word
 {
     Word {
         len: w.len + 1,
-        bits: 2 * w.bits + bit as u64,
+        bits: 2 * w.bits + u64::from(bit),
     }
 }
 
-// Puts the len low bits of bits at bit `at`, and gives the next position.
-pub fn put_word(buf: &mut [u8], at: usize, len: u32, bits: u64) -> usize
-    requires { (len ≤ 69) × (bits < 2 ^ 34) × (bits < 2 ^ len) × (at + len ≤ 8 * length buf.old) × (at + len < 2 ^ 63) }
-    ensures next { result ≡ at + len }
-    ensures buffer { buf.new ≡ put_at buf.old at (field len bits) }
+// Two words as one, where one put takes it.
+pub fn join(front: Word, behind: Word) -> Word
+    requires { IsWord front × IsWord behind × (front.len + behind.len ≤ 56) }
+    ensures { Joins front behind result }
 {
-    if len <= 56 {
-        return crate::put(buf, at, len, bits);
+    Word {
+        len: front.len + behind.len,
+        bits: front.bits * common::pow2(behind.len) + behind.bits,
     }
-    let mid = crate::put(buf, at, len - 34, 0);
-    crate::put(buf, mid, 34, bits)
+}
+
+// Puts a word at bit `at`, and gives the next position.
+pub fn put_word(buf: &mut [u8], at: usize, w: Word) -> usize
+    requires { IsWord w × (at + w.len ≤ 8 * length buf.old) × (at + w.len < 2 ^ 63) }
+    ensures next { result ≡ at + w.len }
+    ensures buffer { buf.new ≡ put_at buf.old at (word_bits w) }
+{
+    if w.len <= 56 {
+        crate::put(buf, at, w.len, w.bits)
+    } else {
+        let mid = crate::put(buf, at, w.len - 34, 0);
+        crate::put(buf, mid, 34, w.bits)
+    }
 }

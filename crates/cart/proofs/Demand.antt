@@ -11,9 +11,8 @@ use Rattle.bitstream.specs.Bytes.{bytes_for, pack, stored}
 use Rattle.bitstream.specs.Told.{payload_limit}
 use Rattle.bitstream.proofs.BytesLaws.{Bytes, length-pack, stored-payload}
 use Rattle.answers.specs.Answers.{read, decoding}
-use Rattle.entropy_elements.specs.Answers.{reading_of, encode_of}
+use Rattle.entropy_elements.specs.Answers.{reading_of}
 use Rattle.entropy_elements.specs.Elements.{size, elements_of, encode}
-use Rattle.entropy_elements.proofs.ArgumentLaws.{arguments-taken, encode_of-fit}
 use Rattle.entropy.proofs.Demand as E
 use Rattle.cart_bytes.specs.Bytes.{ints_of}
 use Rattle.cart_bytes.proofs.ByteLaws.{bytes-ints}
@@ -21,7 +20,7 @@ use Rattle.cart_numbers.specs.Numbers.{encode_numbers}
 use Rattle.cart_numbers.specs.declared.DecodeNumbers.{DecodeNumbers}
 use Rattle.cart_numbers.specs.declared.EncodeNumbers.{EncodeNumbers}
 use Rattle.cart.specs.Coefficients.{in_bytes, decode_bytes_of, encode_bytes_of}
-use Rattle.cart.proofs.CoefficientLaws.{encode-full, decode-full}
+use Rattle.cart.proofs.CoefficientLaws.{encode-ints, decode-full}
 use Rattle.cart.proofs.Face.{encoded, decoded, by-room}
 
 -- the bytes of b blocks, whose coefficients are each below 2^w
@@ -36,21 +35,15 @@ module _ (b w : ℕ) (cs : List ℕ) (small : Bytes cs) (full : length cs ≡ 25
   abbrev numbers : List ℕ → EncodeNumbers
   numbers old = encode_numbers (encode_bytes_of cs b old).answer
 
-  -- the arguments are taken
-  encode-ints : (old : List ℕ) → encode_bytes_of cs b old ≡ encode_of (ints_of cs) b old
-  encode-ints old =
-      encode-full cs b old g.blocks full
-      ∙ sym (encode_of-fit (ints_of cs) b old (arguments-taken 64 0 b (length (ints_of cs)) g.blocks (omega arith) g.all))
-
   -- ---- room
 
   -- without room for the code: 3, and the bytes that are needed; the buffer is untouched
   pub room-none : (old : List ℕ) → length old < needed → encoded (encode_bytes_of cs b old) ≡ (record { result = 3; bytes = needed; bits = 0 }, old)
-  room-none old h = ap encoded (encode-ints old ∙ E.room-none b w (ints_of cs) g old h)
+  room-none old h = ap encoded (encode-ints cs b old g.blocks full ∙ E.room-none b w (ints_of cs) g old h)
 
   -- with room: 0, the code's bytes and bits; the buffer begins with the code, and beyond it is as it was
   pub room-enough : (old : List ℕ) → needed ≤ length old → encoded (encode_bytes_of cs b old) ≡ (record { result = 0; bytes = needed; bits = length code }, stored old code)
-  room-enough old h = ap encoded (encode-ints old ∙ E.room-enough b w (ints_of cs) g old h)
+  room-enough old h = ap encoded (encode-ints cs b old g.blocks full ∙ E.room-enough b w (ints_of cs) g old h)
 
   -- ---- size
 

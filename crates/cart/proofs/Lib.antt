@@ -5,4 +5,3 @@ pub mod Demand
 pub mod SliceDemand
 pub mod AlphaDemand
 pub mod Unique
-pub mod MatrixLaws

@@ -9,18 +9,19 @@ use lib.IntN.{ℤ}
 use lib.ListN.{length, drop}
 use Rattle.bitstream.specs.Bytes.{bytes_for}
 use Rattle.bitstream.proofs.BytesLaws.{Bytes}
+use Rattle.answers.specs.Answers.{fit}
 use Rattle.entropy_elements.specs.Elements.{size, elements_of}
 use Rattle.slice_shape.specs.Shapes.{is_interlaced, chroma_blocks, blocks_per, slice_length, Components}
-use Rattle.slice_shape.specs.Encoding.{scans_of, laid, sizes_of, needed_for, encode_slice_of}
+use Rattle.slice_shape.specs.Arguments.{slice_arguments}
+use Rattle.slice_shape.specs.Encoding.{scans_of, laid, sizes_of, needed_for}
 use Rattle.slice_shape.specs.Decoding.{read_all, slice_reading_of}
-use Rattle.slice_shape.specs.Told.{told_code}
-use Rattle.slice_shape.proofs.ArgumentLaws.{encode_slice_of-fit}
+use Rattle.answers.specs.Told.{told_code}
 use Rattle.slice.proofs.PartLaws.{codes_in, lengths_of, packs, parts_of, none, followed, followed-none, Payloads, no_payloads, none-fit, parts-laid}
 use Rattle.slice.proofs.Demand as S
 use Rattle.cart_bytes.specs.Bytes.{ints_of}
 use Rattle.cart_bytes.proofs.ByteLaws.{bytes-ints}
 use Rattle.cart_slice.specs.SliceBytes.{encode_slice_bytes_of, slice_bytes_decoding, slice_in_bytes, decode_slice_bytes_of}
-use Rattle.cart_slice.proofs.SliceBytesLaws.{encode-fit, decode-fit}
+use Rattle.cart_slice.proofs.SliceBytesLaws.{encode-ints, decode-fit}
 use Rattle.cart_numbers.specs.Slices.{code_numbers, no_codes, encode_slice_numbers}
 use Rattle.cart_numbers.specs.declared.slices.SliceDecodeNumbers.{SliceDecodeNumbers}
 use Rattle.cart_numbers.specs.declared.slices.SliceEncodeNumbers.{SliceEncodeNumbers}
@@ -45,22 +46,20 @@ module _ (m f s w : ℕ) (bytes : List ℕ) (small : Bytes bytes) (full : length
   numbers old = encode_slice_numbers (encode_slice_bytes_of bytes m f s old).answer
 
   -- the arguments are taken
-  encode-ints : (old : List ℕ) → encode_slice_bytes_of bytes m f s old ≡ encode_slice_of (ints_of bytes) m f s old
-  encode-ints old =
-      encode-fit bytes m f s old (S.taken m f s w (ints_of bytes) g 4 no_payloads none-fit full)
-      ∙ sym (encode_slice_of-fit (ints_of bytes) m f s old (S.taken m f s w (ints_of bytes) g 1 no_payloads none-fit (omega (arith, g.all))))
+  taken : slice_arguments 4 0 0 0 m f s (length bytes) ≡ fit
+  taken = S.taken m f s w (ints_of bytes) g 4 no_payloads none-fit full
 
   -- ---- room
 
   -- without room for the three codes: 3, and the bytes that are needed; the buffer is untouched
   pub room-none : (old : List ℕ) → length old < needed → encoded_slice (encode_slice_bytes_of bytes m f s old) ≡ (no_codes 3 needed, old)
-  room-none old h = ap encoded_slice (encode-ints old ∙ S.room-none m f s w (ints_of bytes) g old h)
+  room-none old h = ap encoded_slice (encode-ints bytes m f s old taken ∙ S.room-none m f s w (ints_of bytes) g old h)
 
   -- with room: 0, each code's bytes and bits; the buffer begins with the codes, one after another, and beyond them it is as it was
   pub room-enough : (old : List ℕ) → needed ≤ length old → let n = lengths_of codes in
       encoded_slice (encode_slice_bytes_of bytes m f s old)
       ≡ (record { result = 0; y = code_numbers (bytes_for n.y) n.y; cb = code_numbers (bytes_for n.cb) n.cb; cr = code_numbers (bytes_for n.cr) n.cr; needed = 0 }, laid codes ++ drop needed old)
-  room-enough old h = ap encoded_slice (encode-ints old ∙ S.room-enough m f s w (ints_of bytes) g old h)
+  room-enough old h = ap encoded_slice (encode-ints bytes m f s old taken ∙ S.room-enough m f s w (ints_of bytes) g old h)
 
   -- ---- size
 

@@ -9,7 +9,7 @@ use Rattle.cart_numbers.specs.declared.DecodeNumbers.{DecodeNumbers}
 use Rattle.cart_numbers.specs.declared.EncodeNumbers.{EncodeNumbers}
 use Rattle.cart_numbers.specs.declared.slices.SliceEncodeNumbers.{SliceEncodeNumbers}
 use Rattle.cart_numbers.specs.declared.slices.SliceDecodeNumbers.{SliceDecodeNumbers}
-use Rattle.slice_shape.specs.declared.Code.{Code}
+use Rattle.answers.specs.declared.Code.{Code}
 use Rattle.quant.specs.declared.QuantMatrices.{QuantMatrices}
 use Rattle.cart.specs.Matrices.{pair_of}
 

@@ -3,6 +3,8 @@ ghost use Rattle.std.specs.Prelude.{◌≡◌};
 ghost use Rattle.alpha_elements.specs.Answers.{decode_alpha_of, encode_alpha_of};
 ghost use Rattle.cart_numbers.specs.Numbers.{decode_numbers, encode_numbers};
 
+use crate::given;
+
 #[unsafe(no_mangle)]
 pub extern "C" fn cart_encode_alpha(
     kind: u64,
@@ -14,14 +16,8 @@ pub extern "C" fn cart_encode_alpha(
     ensures buffer { out.new ≡ (encode_alpha_of samples.now kind out.old).buffer }
     ensures numbers { record { result = result; bytes = bytes.new; bits = bits.new } ≡ encode_numbers (encode_alpha_of samples.now kind out.old).answer }
 {
-    let told = cart_numbers::encode_numbers(alpha::encode_scanned_alpha(
-        samples,
-        kind as usize,
-        out,
-    ));
-    *bytes = told.bytes as u64;
-    *bits = told.bits as u64;
-    told.result
+    let answer = alpha::encode_scanned_alpha(samples, kind as usize, out);
+    given::encoded(answer, bytes, bits)
 }
 
 #[unsafe(no_mangle)]
@@ -34,11 +30,6 @@ pub extern "C" fn cart_decode_alpha(
     ensures list { samples.new ≡ (decode_alpha_of payload.now kind samples.old).list }
     ensures numbers { record { result = result; bits = bits.new } ≡ decode_numbers (decode_alpha_of payload.now kind samples.old).answer }
 {
-    let told = cart_numbers::decode_numbers(alpha::decode_scanned_alpha(
-        payload,
-        kind as usize,
-        samples,
-    ));
-    *bits = told.bits as u64;
-    told.result
+    let answer = alpha::decode_scanned_alpha(payload, kind as usize, samples);
+    given::decoded(answer, bits)
 }

@@ -4,14 +4,14 @@ ghost use Rattle.quant.specs.Weights.{flat_pair, perceptual_pair, proxy_pair, lt
 ghost use Rattle.bitstream.specs.Bits.{val};
 ghost use Rattle.cart.specs.Matrices.{pair_of, blend_result, blended_pair};
 
-use quant::{Choice, QuantMatrices};
+use quant::QuantMatrices;
 
 #[unsafe(no_mangle)]
 pub extern "C" fn cart_qscale(index: u8, scale: &mut u64) -> u32
     ensures result { result ≡ 0 }
     ensures scale { scale.new ≡ qscale_of index }
 {
-    *scale = quant::qscale(index) as u64;
+    *scale = u64::from(quant::qscale(index));
     0
 }
 
@@ -20,6 +20,7 @@ fn store(m: QuantMatrices, luma: &mut [u8; 64], chroma: &mut [u8; 64]) -> u32
     ensures result { result ≡ 0 }
     ensures pair { pair_of luma.new chroma.new ≡ m }
 {
+    // by variables: the check covers no array field that is stored straight
     let l = m.luma;
     let c = m.chroma;
     *luma = l;
@@ -80,12 +81,9 @@ pub extern "C" fn cart_blend(number: u64, luma: &mut [u8; 64], chroma: &mut [u8;
     ensures result { result ≡ blend_result (blend_of number).answer }
     ensures pair { pair_of luma.new chroma.new ≡ blended_pair (blend_of number) (pair_of luma.old chroma.old) }
 {
-    let blend = QuantMatrices::blend(number as usize);
-    let choice = blend.choice;
-    let pair = blend.pair;
-    match choice {
-        Choice::Blended => store(pair, luma, chroma),
-        Choice::Refused(why) => why.number(),
+    match QuantMatrices::blend(number as usize) {
+        Ok(pair) => store(pair, luma, chroma),
+        Err(why) => why.number(),
     }
 }
 
@@ -102,11 +100,12 @@ pub extern "C" fn cart_matrix_flags(
     ensures luma { load_luma.new ≡ val (loads_luma (pair_of luma.now chroma.now)) }
     ensures chroma { load_chroma.new ≡ val (loads_chroma (pair_of luma.now chroma.now)) }
 {
-    let l = *luma;
-    let c = *chroma;
-    let m = QuantMatrices { luma: l, chroma: c };
-    *valid = m.weights_valid() as u64;
-    *load_luma = m.load_luma() as u64;
-    *load_chroma = m.load_chroma() as u64;
+    let pair = QuantMatrices {
+        luma: *luma,
+        chroma: *chroma,
+    };
+    *valid = u64::from(pair.weights_valid());
+    *load_luma = u64::from(pair.load_luma());
+    *load_chroma = u64::from(pair.load_chroma());
     0
 }

@@ -3,7 +3,7 @@ ghost use Rattle.std.specs.Prelude.{◌≡◌};
 ghost use Rattle.cart_numbers.specs.Slices.{encode_slice_numbers, decode_slice_numbers};
 ghost use Rattle.cart_slice.specs.SliceBytes.{encode_slice_bytes_of, decode_slice_bytes_of};
 
-use cart_numbers::slices;
+use cart_numbers::slices::{SliceDecodeNumbers, SliceEncodeNumbers};
 
 #[unsafe(no_mangle)]
 pub extern "C" fn cart_encode_slice(
@@ -27,22 +27,19 @@ pub extern "C" fn cart_encode_slice(
     ensures cr { record { bytes = cr_bytes.new; bits = cr_bits.new } ≡ (encode_slice_numbers (encode_slice_bytes_of blocks.now macroblocks chroma scan out.old).answer).cr }
     ensures needed { needed.new ≡ (encode_slice_numbers (encode_slice_bytes_of blocks.now macroblocks chroma scan out.old).answer).needed }
 {
-    let numbers = slices::encode_numbers(cart_slice::encode(
+    let numbers = SliceEncodeNumbers::from(cart_slice::encode(
         blocks,
         macroblocks as usize,
         chroma as usize,
         scan as usize,
         out,
     ));
-    let y = numbers.y;
-    let cb = numbers.cb;
-    let cr = numbers.cr;
-    *y_bytes = y.bytes as u64;
-    *cb_bytes = cb.bytes as u64;
-    *cr_bytes = cr.bytes as u64;
-    *y_bits = y.bits as u64;
-    *cb_bits = cb.bits as u64;
-    *cr_bits = cr.bits as u64;
+    *y_bytes = numbers.y.bytes as u64;
+    *cb_bytes = numbers.cb.bytes as u64;
+    *cr_bytes = numbers.cr.bytes as u64;
+    *y_bits = numbers.y.bits as u64;
+    *cb_bits = numbers.cb.bits as u64;
+    *cr_bits = numbers.cr.bits as u64;
     *needed = numbers.needed as u64;
     numbers.result
 }
@@ -64,7 +61,7 @@ pub extern "C" fn cart_decode_slice(
     ensures bytes { blocks.new ≡ (decode_slice_bytes_of y.now cb.now cr.now macroblocks chroma scan blocks.old).bytes }
     ensures numbers { record { result = result; component = component.new; y = y_bits.new; cb = cb_bits.new; cr = cr_bits.new } ≡ decode_slice_numbers (decode_slice_bytes_of y.now cb.now cr.now macroblocks chroma scan blocks.old).answer }
 {
-    let numbers = slices::decode_numbers(cart_slice::decode(
+    let numbers = SliceDecodeNumbers::from(cart_slice::decode(
         y,
         cb,
         cr,

@@ -2,7 +2,7 @@
 use Rattle.std.specs.Prelude.{ℕ}
 use Rattle.answers.specs.Answers.{EncodeAnswer, wrote, unwritten, Size}
 use Rattle.slice_shape.specs.Decoding.{SliceAnswer, read_all, refuse_in}
-use Rattle.slice_shape.specs.declared.Code.{Code}
+use Rattle.answers.specs.declared.Code.{Code}
 use Rattle.cart_numbers.specs.declared.slices.SliceEncodeNumbers.{SliceEncodeNumbers}
 use Rattle.cart_numbers.specs.declared.slices.SliceDecodeNumbers.{SliceDecodeNumbers}
 use Rattle.slice_shape.specs.Shapes.{Components}

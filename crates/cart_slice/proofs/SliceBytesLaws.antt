@@ -1,4 +1,4 @@
--- Laws of `encode_slice_bytes_of` and `decode_slice_bytes_of`, by what their arguments are answered; and of the list of taken bytes.
+-- Laws of `encode_slice_bytes_of` and `decode_slice_bytes_of` where their arguments are taken; and of the list of taken bytes.
 -- Assumes nothing.
 use Prim.Native.Nat.{ℕ, ◌*◌, ◌/◌, ◌≤◌}
 use mathlib.Core.Path.{◌≡◌, ap, sym, ◌∙◌}
@@ -7,57 +7,29 @@ use native.Mathlib.Omega.{arith}
 use lib.IntN.{ℤ}
 use lib.ListN.{length, take, drop, length-append}
 use lib.Seq.{take_at, length-take-le}
-use Rattle.answers.specs.Answers.{ArgumentsAnswer, fit, unfit, on_arguments, Size, declines, Encoding, encoding}
+use Rattle.answers.specs.Answers.{fit}
 use Rattle.cart_bytes.specs.Bytes.{ints_of}
-use Rattle.slice_shape.specs.Shapes.{Components, slice_list}
+use Rattle.cart_bytes.proofs.ByteLaws.{length-ints}
+use Rattle.slice_shape.specs.Shapes.{slice_list}
 use Rattle.slice_shape.specs.Arguments.{slice_arguments}
-use Rattle.slice_shape.specs.Encoding.{slice_writing_of}
-use Rattle.slice_shape.specs.Decoding.{refuse_in, slice_reading_of}
+use Rattle.slice_shape.specs.Encoding.{encode_slice_of}
+use Rattle.slice_shape.specs.Decoding.{slice_reading_of, decode_slice_of}
 use Rattle.slice_shape.proofs.ShapeLaws.{few-slice}
-use Rattle.slice_shape.proofs.ArgumentLaws.{taken_of, arguments-as}
-use Rattle.cart_slice.specs.SliceBytes.{encode_slice_bytes_of, SliceBytesDecoding, slice_bytes_decoding, slice_in_bytes, decode_slice_bytes_of}
-
-module _ (bytes : List ℕ) (m f s : ℕ) (old : List ℕ) where
-  abbrev encoded : ArgumentsAnswer → Encoding (Components Size)
-  encoded x = on_arguments x (slice_writing_of (ints_of bytes) m f s old) (λ k. encoding (declines k) old)
-
-  pub encode-unfit : {k : ℕ} → slice_arguments 4 0 0 0 m f s (length bytes) ≡ unfit k → encode_slice_bytes_of bytes m f s old ≡ encoding (declines k) old
-  unfolding encode_slice_bytes_of
-  encode-unfit e = ap encoded e
-
-  pub encode-fit : slice_arguments 4 0 0 0 m f s (length bytes) ≡ fit → encode_slice_bytes_of bytes m f s old ≡ slice_writing_of (ints_of bytes) m f s old
-  unfolding encode_slice_bytes_of
-  encode-fit e = ap encoded e
-
-module _ (y cb cr : List ℕ) (m f s : ℕ) (old : List ℕ) where
-  abbrev decoded : ArgumentsAnswer → SliceBytesDecoding
-  decoded x = on_arguments x (slice_in_bytes (slice_reading_of y cb cr m f s)) (λ k. slice_bytes_decoding (refuse_in 0 k) old)
-
-  pub decode-unfit : {k : ℕ} → slice_arguments 4 (length y) (length cb) (length cr) m f s (length old) ≡ unfit k
-      → decode_slice_bytes_of y cb cr m f s old ≡ slice_bytes_decoding (refuse_in 0 k) old
-  unfolding decode_slice_bytes_of
-  decode-unfit e = ap decoded e
-
-  pub decode-fit : slice_arguments 4 (length y) (length cb) (length cr) m f s (length old) ≡ fit
-      → decode_slice_bytes_of y cb cr m f s old ≡ slice_in_bytes (slice_reading_of y cb cr m f s)
-  unfolding decode_slice_bytes_of
-  decode-fit e = ap decoded e
+use Rattle.slice_shape.proofs.ArgumentLaws.{taken_of, arguments-as, encode_slice_of-fit, decode_slice_of-fit}
+use Rattle.cart_slice.specs.SliceBytes.{encode_slice_bytes_of, slice_in_bytes, decode_slice_bytes_of}
 
 -- ---- the list of taken bytes, which the slice coder takes too
 
-pub record Listed (y cb cr m f s n : ℕ) : Type 0 where
-  pub all : n ≡ 4 * (n / 4)
-  pub inside : n / 4 ≤ slice_list
-  pub one : slice_arguments 1 y cb cr m f s (n / 4) ≡ fit
+module _ (y cb cr m f s n : ℕ) where
+  pub record Listed : Type 0 where
+    pub all : n ≡ 4 * (n / 4)
+    pub inside : n / 4 ≤ slice_list
 
-pub listed : (y cb cr m f s n : ℕ) → slice_arguments 4 y cb cr m f s n ≡ fit → Listed y cb cr m f s n
-listed y cb cr m f s n e =
-    let t = taken_of 4 y cb cr m f s n e in
-    record {
-      all = omega (arith, t.full);
-      inside = omega (arith, t.full, few-slice t.few);
-      one = arguments-as 4 y cb cr m f s n 1 (n / 4) (omega (arith, t.full)) e;
-    }
+  pub listed : slice_arguments 4 y cb cr m f s n ≡ fit → Listed
+  listed e = let t = taken_of 4 y cb cr m f s n e in record { all = omega (arith, t.full); inside = omega (arith, t.full, few-slice t.few) }
+
+  one : slice_arguments 4 y cb cr m f s n ≡ fit → {k : ℕ} → k ≡ n / 4 → slice_arguments 1 y cb cr m f s k ≡ fit
+  one e {k} h = arguments-as 4 y cb cr m f s n 1 k (omega (arith, (taken_of 4 y cb cr m f s n e).full)) e
 
 -- the front of a longer list is lent for such a list, and comes back as l
 pub record Lent (n : ℕ) (list l : List ℤ) : Type 0 where
@@ -80,3 +52,29 @@ lent y cb cr m f s n list l fits z e =
       room = omega (arith, length-append l (drop k list), back);
       front = take_at l (drop k list) k back;
     }
+
+-- ---- decoding and encoding: the slice coder's own
+
+module _ (y cb cr : List ℕ) (m f s : ℕ) (old : List ℕ) where
+  pub decode-fit : slice_arguments 4 (length y) (length cb) (length cr) m f s (length old) ≡ fit
+      → decode_slice_bytes_of y cb cr m f s old ≡ slice_in_bytes (slice_reading_of y cb cr m f s)
+  unfolding decode_slice_bytes_of
+  decode-fit e = rw e
+
+  pub decode-ints : (list : List ℤ) → slice_arguments 4 (length y) (length cb) (length cr) m f s (length old) ≡ fit → length list ≡ length old / 4
+      → decode_slice_bytes_of y cb cr m f s old ≡ slice_in_bytes (decode_slice_of y cb cr m f s list)
+  decode-ints list e long =
+      decode-fit e ∙ ap slice_in_bytes (sym (decode_slice_of-fit y cb cr m f s list (one (length y) (length cb) (length cr) m f s (length old) e long)))
+
+module _ (bytes : List ℕ) (m f s : ℕ) (old : List ℕ) where
+  pub encode-ints : slice_arguments 4 0 0 0 m f s (length bytes) ≡ fit → encode_slice_bytes_of bytes m f s old ≡ encode_slice_of (ints_of bytes) m f s old
+  unfolding encode_slice_bytes_of
+  encode-ints e =
+      let long : length (ints_of bytes) ≡ length bytes / 4 = length-ints bytes (length bytes / 4) (listed 0 0 0 m f s (length bytes) e).all in
+      rw e (sym (encode_slice_of-fit (ints_of bytes) m f s old (one 0 0 0 m f s (length bytes) e long)))
+
+-- ---- what the functions need: of the list only the front is lent
+
+pub ruleset encodes = (listed, length-take-le, encode-ints)
+
+pub ruleset decodes = (listed, length-take-le, decode-ints)

@@ -1,118 +1,35 @@
-// Slices whose blocks are bytes, for a caller in C.
+// Slices whose blocks are bytes, for a caller in C. Its chroma format and scan are numbers, of which the test of arguments refuses those unknown.
 #![tactic(auto)]
 
-ghost use Rattle.std.specs.Prelude.{◌≡◌, length};
-ghost use Rattle.answers.specs.Answers.{fit, encoding};
-ghost use Rattle.cart_bytes.specs.Bytes.{ints_of};
-ghost use Rattle.slice_shape.specs.Shapes.{slice_list};
-ghost use Rattle.slice_shape.specs.Arguments.{slice_arguments};
-ghost use Rattle.slice_shape.specs.Encoding.{slice_writing_of};
-ghost use Rattle.slice_shape.specs.Decoding.{slice_reading_of};
+ghost use Rattle.std.specs.Prelude.{◌≡◌};
+ghost use Rattle.answers.specs.Answers.{encoding};
 ghost use Rattle.slice_shape.specs.Told.{told_encoded_slice, told_decoded_slice};
-ghost use Rattle.cart_slice.specs.SliceBytes.{encode_slice_bytes_of, slice_bytes_decoding, slice_in_bytes, decode_slice_bytes_of};
+ghost use Rattle.cart_slice.specs.SliceBytes.{encode_slice_bytes_of, slice_bytes_decoding, decode_slice_bytes_of};
 
-use answers::Arguments;
-use slice_shape::{DecodedSlice, EncodedSlice, SLICE_LIST, arguments};
-
-// ---- encoding
-
-// Over a list that is long enough for any slice.
-fn encode_within(
-    list: &mut [i32],
-    bytes: &[u8],
-    macroblocks: usize,
-    chroma: usize,
-    scan: usize,
-    out: &mut [u8],
-) -> EncodedSlice
-    requires { (slice_arguments 4 0 0 0 macroblocks chroma scan (length bytes.now) ≡ fit) × (length list.old ≡ slice_list) }
-    ensures { encoding (told_encoded_slice result) out.new ≡ slice_writing_of (ints_of bytes.now) macroblocks chroma scan out.old }
-{
-    let n = bytes.len() / 4;
-    cart_bytes::load(bytes, &mut list[..n]);
-    slice::encode_slice_components(&list[..n], macroblocks, chroma, scan, out)
-}
-
-// Lends the list.
-fn encode_bytes(
-    bytes: &[u8],
-    macroblocks: usize,
-    chroma: usize,
-    scan: usize,
-    out: &mut [u8],
-) -> EncodedSlice
-    requires { slice_arguments 4 0 0 0 macroblocks chroma scan (length bytes.now) ≡ fit }
-    ensures { encoding (told_encoded_slice result) out.new ≡ slice_writing_of (ints_of bytes.now) macroblocks chroma scan out.old }
-{
-    let mut list = [0i32; SLICE_LIST];
-    encode_within(&mut list, bytes, macroblocks, chroma, scan, out)
-}
+use answers::{Code, EncodeRefusal};
+use slice_scan::Components;
+use slice_shape::{SLICE_LIST, SliceRefusal, arguments};
 
 // As encode_slice_components of the crate slice, from bytes.
+#[tactic(auto, using(crate::proofs::SliceBytesLaws::encodes), unfolding(crate::specs::SliceBytes::encode_slice_bytes_of))]
 pub fn encode(
     bytes: &[u8],
     macroblocks: usize,
     chroma: usize,
     scan: usize,
     out: &mut [u8],
-) -> EncodedSlice
+) -> Result<Components<Code>, EncodeRefusal>
     ensures { encoding (told_encoded_slice result) out.new ≡ encode_slice_bytes_of bytes.now macroblocks chroma scan out.old }
 {
-    let tested = arguments::test(4, 0, 0, 0, macroblocks, chroma, scan, bytes.len());
-    match tested {
-        Arguments::Refused(why) => EncodedSlice::Refused(why),
-        Arguments::Taken => encode_bytes(bytes, macroblocks, chroma, scan, out),
-    }
-}
-
-// ---- decoding
-
-// Over a list that is long enough for any slice. A component's refusal makes the list all zero, and then so are the bytes.
-fn decode_within(
-    list: &mut [i32],
-    y: &[u8],
-    cb: &[u8],
-    cr: &[u8],
-    macroblocks: usize,
-    chroma: usize,
-    scan: usize,
-    bytes: &mut [u8],
-) -> DecodedSlice
-    requires { (slice_arguments 4 (length y.now) (length cb.now) (length cr.now) macroblocks chroma scan (length bytes.old) ≡ fit) × (length list.old ≡ slice_list) }
-    ensures { slice_bytes_decoding (told_decoded_slice result) bytes.new ≡ slice_in_bytes (slice_reading_of y.now cb.now cr.now macroblocks chroma scan) }
-{
-    let n = bytes.len() / 4;
-    let decoded = slice::decode_slice_components(
-        y,
-        cb,
-        cr,
-        macroblocks,
-        chroma,
-        scan,
-        &mut list[..n],
-    );
-    cart_bytes::store(&list[..n], bytes);
-    decoded
-}
-
-// Lends the list.
-fn decode_bytes(
-    y: &[u8],
-    cb: &[u8],
-    cr: &[u8],
-    macroblocks: usize,
-    chroma: usize,
-    scan: usize,
-    bytes: &mut [u8],
-) -> DecodedSlice
-    requires { slice_arguments 4 (length y.now) (length cb.now) (length cr.now) macroblocks chroma scan (length bytes.old) ≡ fit }
-    ensures { slice_bytes_decoding (told_decoded_slice result) bytes.new ≡ slice_in_bytes (slice_reading_of y.now cb.now cr.now macroblocks chroma scan) }
-{
+    arguments::test(4, 0, 0, 0, macroblocks, chroma, scan, bytes.len())?;
     let mut list = [0i32; SLICE_LIST];
-    decode_within(&mut list, y, cb, cr, macroblocks, chroma, scan, bytes)
+    let list = &mut list[..bytes.len() / 4];
+    cart_bytes::load(bytes, list);
+    slice::encode_slice_components(list, macroblocks, chroma, scan, out)
 }
 
-// As decode_slice_components of the crate slice, into bytes.
+// As decode_slice_components of the crate slice, into bytes. A component's refusal makes the list all zero, and then so are the bytes.
+#[tactic(auto, using(crate::proofs::SliceBytesLaws::decodes), unfolding(crate::specs::SliceBytes::decode_slice_bytes_of))]
 pub fn decode(
     y: &[u8],
     cb: &[u8],
@@ -121,10 +38,10 @@ pub fn decode(
     chroma: usize,
     scan: usize,
     bytes: &mut [u8],
-) -> DecodedSlice
+) -> Result<Components<usize>, SliceRefusal>
     ensures { slice_bytes_decoding (told_decoded_slice result) bytes.new ≡ decode_slice_bytes_of y.now cb.now cr.now macroblocks chroma scan bytes.old }
 {
-    let tested = arguments::test(
+    arguments::test(
         4,
         y.len(),
         cb.len(),
@@ -133,9 +50,10 @@ pub fn decode(
         chroma,
         scan,
         bytes.len(),
-    );
-    match tested {
-        Arguments::Refused(why) => DecodedSlice::Refused(why),
-        Arguments::Taken => decode_bytes(y, cb, cr, macroblocks, chroma, scan, bytes),
-    }
+    )?;
+    let mut list = [0i32; SLICE_LIST];
+    let list = &mut list[..bytes.len() / 4];
+    let read = slice::decode_slice_components(y, cb, cr, macroblocks, chroma, scan, list);
+    cart_bytes::store(list, bytes);
+    read
 }

@@ -4,8 +4,7 @@ use mathlib.Core.Path.{◌≡◌}
 use mathlib.Core.List.{List}
 use Prim.Native.Nat.{ℕ}
 use Rattle.bitstream.specs.Told.{told_read, outcome_at}
-use Rattle.bitstream.specs.declared.Read.{Read}
-use Rattle.bitstream.proofs.Unique.{told_read-once}
+use Rattle.bitstream.proofs.Unique.{Read, told_read-once}
 use Rattle.codeword.specs.Codewords.{read_code}
 use Rattle.codeword.specs.declared.Codebook.{Codebook}
 

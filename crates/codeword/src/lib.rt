@@ -7,13 +7,14 @@ ghost use Rattle.codeword.specs.Codewords.{code, read_code};
 ghost use Rattle.codeword.specs.Words.{InUse};
 ghost use Rattle.bitstream_writer.specs.Words.{Spells};
 
-use bitstream::{Cursor, Read};
+use answers::Refusal;
+use bitstream::Cursor;
 use bitstream_writer::Word;
 
 mod read; // a codeword at a cursor
 pub mod words; // a codeword as one field
 
-#[derive(Clone, Copy)]
+#[derive(Clone, Copy, Debug, PartialEq, Eq)]
 pub enum Codebook {
     ExpGolomb(u32),
     RiceExp {
@@ -25,7 +26,7 @@ pub enum Codebook {
 
 impl Codebook {
     // The symbol at a cursor. Every parameter is answered, and none can overflow.
-    pub fn read(self, payload: &[u8], c: Cursor) -> Read
+    pub fn read(self, payload: &[u8], c: Cursor) -> Result<(u32, Cursor), Refusal>
         ensures { told_read result ≡ outcome_at (read_code self) payload.now c.at }
     {
         match self {
@@ -38,7 +39,7 @@ impl Codebook {
         }
     }
 
-    // The codeword of any symbol n, in one of the codebooks in use.
+    // The codeword of any symbol n, in one of the codebooks in use. No function of both kinds is left to share with `read`: each arm calls its own.
     pub fn word(self, n: u32) -> Word
         requires { InUse self }
         ensures { Spells (code self n) result.len result.bits }

@@ -17,7 +17,7 @@ pub fn exp_golomb_word(k: u32, n: u32) -> Word
     requires { k ≤ 5 }
     ensures { Spells (exp_golomb k n) result.len result.bits × (result.len ≤ 65) }
 {
-    let x = (n as u64) + common::pow2(k);
+    let x = u64::from(n) + common::pow2(k);
     let l = log2_of(x);
     Word {
         len: 2 * l + 1 - k,
@@ -30,8 +30,8 @@ pub fn combo_word(last_q: u32, r: u32, e: u32, n: u32) -> Word
     ensures { Spells (combo last_q r e n) result.len result.bits }
 {
     let one = common::pow2(r);
-    let limit = (last_q as u64 + 1) * one;
-    let m = n as u64;
+    let limit = (u64::from(last_q) + 1) * one;
+    let m = u64::from(n);
     if m < limit {
         return Word {
             len: (n >> r) + 1 + r,

@@ -1,7 +1,6 @@
 -- Laws of code_length: how long a codeword can be in the codebooks of each kind of element.
 -- Assumes nothing.
-use mathlib.Core.Path.{◌≡◌, refl}
-use mathlib.Core.Bool.{Bool, true, false, cond}
+use mathlib.Core.Path.{◌≡◌}
 use Prim.Native.Nat.{ℕ, zero, suc, ◌+◌, ◌-◌, ◌*◌, ◌/◌, ◌^◌, ◌≤◌, ◌<◌}
 use native.Mathlib.Nat.{lt_of_lt_of_le, lt_of_not-le, not-le_of_lt, add-zero, add-suc, le-mul_of_pos_right, pow-suc, div-le_self, div-one}
 use native.Mathlib.Omega.{arith}
@@ -10,6 +9,7 @@ use lib.Count.{leading_top}
 use lib.Dec.{ltb}
 use lib.Pow.{pow_pos, pow_mono}
 use borrow.Author.Tests.{ltb-true, ltb-false}
+use Rattle.std.proofs.lemmas.Bool.{cond_both}
 use Rattle.codeword.specs.declared.Codebook.{Codebook}
 use Rattle.codeword.specs.declared.Codebook.TheVariants.{ExpGolomb, RiceExp}
 use Rattle.codeword.specs.Codewords.{log2, exp_length, code_length}
@@ -37,11 +37,9 @@ exp-le k n m c h hm hc =
 pub combo-le : (q r e n c : ℕ) → (n < (q + 1) * 2 ^ r → n / 2 ^ r + 1 + r ≤ c)
     → ((q + 1) * 2 ^ r ≤ n → q + 1 + code_length (ExpGolomb e) (n - (q + 1) * 2 ^ r) ≤ c) → code_length (RiceExp q r e) n ≤ c
 unfolding code_length
-combo-le q r e n c f g = go (ltb n ((q + 1) * 2 ^ r)) refl
-  where
-    go : (t : Bool) → ltb n ((q + 1) * 2 ^ r) ≡ t → cond t (n / 2 ^ r + 1 + r) (q + 1 + exp_length e (n - (q + 1) * 2 ^ r)) ≤ c
-    go true h = f (ltb-true n ((q + 1) * 2 ^ r) h)
-    go false h = g (ltb-false n ((q + 1) * 2 ^ r) h)
+combo-le q r e n c f g =
+    let most : ℕ = (q + 1) * 2 ^ r in
+    cond_both (ltb n most) (n / 2 ^ r + 1 + r) (q + 1 + exp_length e (n - most)) (λ l. l ≤ c) (λ h. f (ltb-true n most h)) (λ h. g (ltb-false n most h))
 
 -- ---- the first DC: at most 2w + 5 bits, and 6 where it is 0
 

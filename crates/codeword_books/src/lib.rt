@@ -13,6 +13,7 @@ pub fn first_dc_codebook() -> Codebook
 }
 
 // By the magnitude of the last DC difference.
+#[tactic(auto, unfolding(crate::specs::Books::dc_book))]
 pub fn dc_diff_codebook(prev: u32) -> Codebook
     ensures { result ≡ dc_book prev }
 {
@@ -29,6 +30,7 @@ pub fn dc_diff_codebook(prev: u32) -> Codebook
 }
 
 // By the last run.
+#[tactic(auto, unfolding(crate::specs::Books::run_book))]
 pub fn run_codebook(prev: u32) -> Codebook
     ensures { result ≡ run_book prev }
 {
@@ -55,6 +57,7 @@ pub fn run_codebook(prev: u32) -> Codebook
 }
 
 // By the last level's symbol, its magnitude less one.
+#[tactic(auto, unfolding(crate::specs::Books::level_book))]
 pub fn level_codebook(prev: u32) -> Codebook
     ensures { result ≡ level_book prev }
 {

@@ -8,14 +8,16 @@ ghost use Rattle.codeword.specs.Codewords.{width, base, read_code};
 ghost use Rattle.codeword.specs.Words.{InUse};
 ghost use Rattle.codeword_peek.specs.Peeks.{peeked, combo_of, as_book, Small};
 
-use bitstream::{Cursor, Read, windows};
+use answers::Refusal;
+use bitstream::{Cursor, windows};
 use codeword::Codebook;
 
 // How many bits of a word are sure to be the payload's.
 pub const SHOWN: u32 = 57;
 
-// The codeword at the top of a word. Its value is told where it is SHOWN bits long at most.
-#[derive(Clone, Copy)]
+// The codeword at the top of a word. Its value is told where it is SHOWN bits long at most, and is 0 elsewhere; no Option, since peek promises the
+// length of a longer one too (`no_one` of PeekExamples).
+#[derive(Clone, Copy, Debug, PartialEq, Eq)]
 pub struct Peeked {
     pub len: u32,
     pub value: u32,
@@ -55,10 +57,7 @@ fn combo_of(book: Codebook) -> Combo
 fn pick(first: bool, a: u32, b: u32) -> u32
     ensures { result ≡ (if first then a else b) }
 {
-    if first {
-        return a;
-    }
-    b
+    if first { a } else { b }
 }
 
 // How long a codeword is that begins with q zeros. Where the first number is picked, the difference may wrap.
@@ -66,7 +65,7 @@ fn code_len(b: Combo, q: u32) -> u32
     requires { Small b × (q ≤ 64) }
     ensures { result ≡ q + 1 + width (as_book b) q }
 {
-    let far = std::num::wrapping_sub_u32(2 * q + b.e, b.last);
+    let far = (2 * q + b.e).wrapping_sub(b.last);
     pick(q <= b.last, q + 1 + b.r, far)
 }
 
@@ -87,7 +86,7 @@ pub fn peek(book: Codebook, w: u64) -> Peeked
     ensures { result ≡ peeked book w }
 {
     let b = combo_of(book);
-    let q = u64::leading_zeros(w);
+    let q = w.leading_zeros();
     let len = code_len(b, q);
     if SHOWN < len {
         return Peeked { len, value: 0 };
@@ -100,7 +99,7 @@ pub fn peek(book: Codebook, w: u64) -> Peeked
 }
 
 // The symbol at a bit of a payload, as `Codebook::read` has it.
-pub fn read(book: Codebook, payload: &[u8], at: usize) -> Read
+pub fn read(book: Codebook, payload: &[u8], at: usize) -> Result<(u32, Cursor), Refusal>
     requires { InUse book × InPayload payload.now at }
     ensures { told_read result ≡ outcome_at (read_code book) payload.now at }
 {
@@ -111,10 +110,10 @@ pub fn read(book: Codebook, payload: &[u8], at: usize) -> Read
     if SHOWN < one.len {
         return book.read(payload, Cursor { at });
     }
-    Read::Value {
-        value: one.value,
-        next: Cursor {
+    Ok((
+        one.value,
+        Cursor {
             at: at + one.len as usize,
         },
-    }
+    ))
 }

@@ -3,11 +3,11 @@
 use Prim.Native.Nat.{ℕ, ◌≤◌, ◌<◌}
 use native.Mathlib.Omega.{arith}
 use mathlib.Core.Path.{◌≡◌, sym, ◌∙◌}
-use mathlib.Core.Bool.{true, false}
+use mathlib.Core.Bool.{true}
 use mathlib.Core.List.{List}
 use lib.IntN.{ℤ}
 use lib.ListN.{length}
-use Rattle.answers.specs.Answers.{encoding, wrote, needs, declines}
+use Rattle.answers.specs.Answers.{encoding, wrote, needs}
 use Rattle.bitstream.specs.Bytes.{bytes_for, stored}
 use Rattle.bitstream.specs.Written.{written}
 use Rattle.bitstream.proofs.WrittenLaws.{written-room, written-done}
@@ -17,11 +17,7 @@ use Rattle.entropy_elements.specs.Answers.{writing_of, encode_of}
 use Rattle.entropy_elements.proofs.ArgumentLaws.{arguments-taken, encode_of-fit}
 
 module _ (cs : List ℤ) (b : ℕ) (old : List ℕ) where
-  pub writing-out : in_range cs ≡ false → writing_of cs b old ≡ encoding (declines 4) old
-  unfolding writing_of
-  writing-out r = simp r
-
-  writing-in : in_range cs ≡ true → writing_of cs b old ≡ written (encode b cs) old
+  pub writing-in : in_range cs ≡ true → writing_of cs b old ≡ written (encode b cs) old
   unfolding writing_of
   writing-in r = simp r
 

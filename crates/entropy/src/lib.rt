@@ -8,70 +8,61 @@ ghost use Rattle.bitstream.specs.Told.{payload_limit};
 ghost use Rattle.entropy_elements.specs.Answers.{reading_of, decode_of, writing_of, encode_of};
 ghost use Rattle.entropy_elements.specs.Limits.{block_limit};
 
-use answers::{Arguments, Decoded, Encoded, Reached, Refusal};
+use answers::{Code, EncodeRefusal, Refusal};
+use bitstream_writer::codes;
 use entropy_elements::{arguments, range, zero};
+use entropy_writing::Coefficients;
 
 // A decode whose arguments were tested.
-fn decode_tested(payload: &[u8], blocks: usize, out: &mut [i32]) -> Decoded
+fn decode_tested(payload: &[u8], blocks: usize, out: &mut [i32]) -> Result<usize, Refusal>
     requires { (length payload.now ≤ payload_limit) × (blocks ≤ block_limit) × (length out.old ≡ 64 * blocks) }
     ensures { decoding (told_decoded result) out.new ≡ reading_of payload.now blocks }
 {
     zero::zero(out);
-    let reached = entropy_reading::read_all(payload, blocks, out);
-    match reached {
-        Reached::At(bits) => Decoded::Done { bits },
-        Reached::No(why) => {
-            zero::zero(out);
-            Decoded::Refused(why)
-        }
+    let read = entropy_reading::read_all(payload, blocks, out);
+    if read.is_err() {
+        zero::zero(out);
     }
+    read
 }
 
 // Reads 64 x blocks scanned coefficients into out. A refusal of the arguments (1, 2) leaves out as it was; one of the payload (5 to 8) makes it
 // all zero.
-pub fn decode_scanned_coefficients(payload: &[u8], blocks: usize, out: &mut [i32]) -> Decoded
+pub fn decode_scanned_coefficients(
+    payload: &[u8],
+    blocks: usize,
+    out: &mut [i32],
+) -> Result<usize, Refusal>
     ensures { decoding (told_decoded result) out.new ≡ decode_of payload.now blocks out.old }
 {
-    let tested = arguments::test(64, payload.len(), blocks, out.len());
-    match tested {
-        Arguments::Refused(why) => Decoded::Refused(why),
-        Arguments::Taken => decode_tested(payload, blocks, out),
-    }
+    arguments::test(64, payload.len(), blocks, out.len())?;
+    decode_tested(payload, blocks, out)
 }
 
 // An encode whose arguments were tested, but for the range of the coefficients.
-fn encode_tested(coeffs: &[i32], blocks: usize, out: &mut [u8]) -> Encoded
+#[tactic(auto, unfolding(entropy_elements::specs::Answers::writing_of))]
+fn encode_tested(coeffs: &[i32], blocks: usize, out: &mut [u8]) -> Result<Code, EncodeRefusal>
     requires { (blocks ≤ block_limit) × (length coeffs.now ≡ 64 * blocks) }
     ensures { encoding (told_encoded result) out.new ≡ writing_of coeffs.now blocks out.old }
 {
     if range::out_of_range(coeffs) {
-        return Encoded::Refused(Refusal::Value);
+        return Err(EncodeRefusal::Refused(Refusal::Value));
     }
-    // a buffer with room for any list of this length needs no counting first
-    if arguments::BLOCK_BYTES * blocks <= out.len() {
-        let done = entropy_writing::write(coeffs, blocks, out);
-        let bytes = (done + 7) / 8;
-        return Encoded::Done { bytes, bits: done };
-    }
-    let bits = entropy_writing::count(coeffs, blocks);
-    let needed = (bits + 7) / 8;
-    if out.len() < needed {
-        return Encoded::Room { needed };
-    }
-    let written = entropy_writing::write(coeffs, blocks, out);
-    Encoded::Done {
-        bytes: needed,
-        bits: written,
-    }
+    let coefficients = Coefficients {
+        list: coeffs,
+        blocks,
+    };
+    codes::encode(&coefficients, out)
 }
 
 // Writes the code of 64 x blocks scanned coefficients at the start of out. Nothing is written unless there is room for all of it.
-pub fn encode_scanned_coefficients(coeffs: &[i32], blocks: usize, out: &mut [u8]) -> Encoded
+pub fn encode_scanned_coefficients(
+    coeffs: &[i32],
+    blocks: usize,
+    out: &mut [u8],
+) -> Result<Code, EncodeRefusal>
     ensures { encoding (told_encoded result) out.new ≡ encode_of coeffs.now blocks out.old }
 {
-    let tested = arguments::test(64, 0, blocks, coeffs.len());
-    match tested {
-        Arguments::Refused(why) => Encoded::Refused(why),
-        Arguments::Taken => encode_tested(coeffs, blocks, out),
-    }
+    arguments::test(64, 0, blocks, coeffs.len())?;
+    encode_tested(coeffs, blocks, out)
 }

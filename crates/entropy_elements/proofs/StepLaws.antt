@@ -2,8 +2,8 @@
 -- Assumes nothing.
 use Prim.Native.Nat.{ℕ, ◌-◌, ◌*◌, ◌^◌, ◌≤◌, ◌<◌}
 use native.Mathlib.Omega.{arith}
-use mathlib.Core.Path.{◌≡◌, refl, ap, ap₂, ◌∙◌}
-use mathlib.Core.Bool.{Bool, true, false, cond, ◌||◌}
+use mathlib.Core.Path.{◌≡◌, ap, ap₂, ◌∙◌}
+use mathlib.Core.Bool.{Bool, true, false, ◌||◌, or-true}
 use mathlib.Core.List.{List, [], ◌∷◌, ◌++◌}
 use lib.Dec.{eqb, leb, ltb}
 use lib.IntN.{ℤ, nat_abs, ◌+ℤ◌, ◌-ℤ◌}
@@ -87,11 +87,7 @@ step-level left rb lb s g t u h =
 
 pub step-ended : (left : ℕ) (rb lb : Codebook) (z : List Bool) → ended z ≡ true → step (run left rb lb) z ≡ stop
 unfolding step
-step-ended left rb lb z e = go (eqb left 0)
-  where
-    go : (b : Bool) → cond (b || ended z) stop (on_read (read_code rb z) (λ n v. run_to left lb n v)) ≡ stop
-    go true = refl
-    go false = cond_yes _ _ e
+step-ended left rb lb z e = rw (e, or-true)
 
 -- ---- a step that moves takes a bit at least
 

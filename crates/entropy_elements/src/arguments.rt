@@ -3,7 +3,7 @@ ghost use Rattle.std.specs.Prelude.{◌≡◌, ◌≤◌};
 ghost use Rattle.answers.specs.Told.{told_arguments};
 ghost use Rattle.entropy_elements.specs.Answers.{coefficient_arguments};
 
-use answers::{Arguments, Refusal};
+use answers::Refusal;
 
 // The most blocks per call.
 pub const BLOCK_LIMIT: usize = 32;
@@ -15,18 +15,19 @@ pub const LIST_LIMIT: usize = 64 * BLOCK_LIMIT;
 pub const BLOCK_BYTES: usize = 504;
 
 // A payload of so many bytes (none to encode) and a list of so many values, `each` for a block.
-pub fn test(each: usize, payload: usize, blocks: usize, list: usize) -> Arguments
+#[tactic(auto, unfolding(crate::specs::Answers::coefficient_arguments))]
+pub fn test(each: usize, payload: usize, blocks: usize, list: usize) -> Result<(), Refusal>
     requires { each ≤ 256 }
     ensures { told_arguments result ≡ coefficient_arguments each payload blocks list }
 {
     if BLOCK_LIMIT < blocks {
-        return Arguments::Refused(Refusal::Limit);
+        return Err(Refusal::Limit);
     }
     if bitstream::PAYLOAD_LIMIT < payload {
-        return Arguments::Refused(Refusal::Limit);
+        return Err(Refusal::Limit);
     }
     if list != each * blocks {
-        return Arguments::Refused(Refusal::Length);
+        return Err(Refusal::Length);
     }
-    Arguments::Taken
+    Ok(())
 }

@@ -5,71 +5,65 @@ ghost use Rattle.entropy_elements.specs.Values.{first_dc, next_dc, level_of};
 
 use crate::range::MOST;
 
-// A DC, whether its difference is negative, and that difference's magnitude; or out of range (refusal 8).
-#[derive(Clone, Copy)]
-pub enum Dc {
-    Is {
-        dc: i32,
-        negative: bool,
-        magnitude: u32,
-    },
-    Out,
+// A DC, whether its difference is negative, and that difference's magnitude.
+#[derive(Clone, Copy, Debug, PartialEq, Eq)]
+pub struct Dc {
+    pub dc: i32,
+    pub negative: bool,
+    pub magnitude: u32,
 }
 
-// The first DC, whose symbol is s. It counts as a difference of 3.
-pub fn first_dc(s: u32) -> Dc
+// The first DC, whose symbol is s; none if it is out of range (refusal 8). It counts as a difference of 3.
+#[tactic(auto, unfolding(crate::specs::Values::first_dc, crate::specs::Values::dc_of))]
+pub fn first_dc(s: u32) -> Option<Dc>
     ensures { result ≡ first_dc s }
 {
     let dc = codeword_signs::inv_signed_mapping(s);
-    if MOST < codeword_signs::magnitude(dc) {
-        return Dc::Out;
-    }
-    Dc::Is {
-        dc,
-        negative: false,
-        magnitude: 3,
+    if MOST < dc.unsigned_abs() {
+        None
+    } else {
+        Some(Dc {
+            dc,
+            negative: false,
+            magnitude: 3,
+        })
     }
 }
 
-// The DC after dc, whose difference has symbol s; it is negated where the last difference was negative. The sum is over whole numbers.
-pub fn next_dc(dc: i32, last_negative: bool, s: u32) -> Dc
+// The DC after dc, whose difference has symbol s; none if it is out of range (refusal 8). The difference is negated where the last one was negative.
+// The sum is over whole numbers.
+#[tactic(auto, using(std::proofs::lemmas::Int::ints), unfolding(crate::specs::Values::next_dc, crate::specs::Values::dc_of, codeword_signs::specs::Signs::turned))]
+pub fn next_dc(dc: i32, last_negative: bool, s: u32) -> Option<Dc>
     requires { nat_abs dc ≤ most }
     ensures { result ≡ next_dc dc last_negative s }
 {
     let d = codeword_signs::inv_signed_mapping(s);
-    let m = codeword_signs::magnitude(d);
-    if 1073741822 < m {
-        return Dc::Out;
+    let m = d.unsigned_abs();
+    if 2 * MOST < m {
+        return None;
     }
     let t = codeword_signs::turn(last_negative, d);
     let sum = dc + t;
-    if MOST < codeword_signs::magnitude(sum) {
-        return Dc::Out;
-    }
-    Dc::Is {
-        dc: sum,
-        negative: codeword_signs::negative(t),
-        magnitude: m,
+    if MOST < sum.unsigned_abs() {
+        None
+    } else {
+        Some(Dc {
+            dc: sum,
+            negative: t.is_negative(),
+            magnitude: m,
+        })
     }
 }
 
-// A level, or out of range (refusal 8).
-#[derive(Clone, Copy)]
-pub enum Level {
-    Is(i32),
-    Out,
-}
-
-// The level of magnitude s + 1 with its sign.
-pub fn level_of(negative: bool, s: u32) -> Level
+// The level of magnitude s + 1 with its sign; none if it is out of range (refusal 8).
+#[tactic(auto, using(std::proofs::lemmas::Int::ints), unfolding(crate::specs::Values::level_of))]
+pub fn level_of(negative: bool, s: u32) -> Option<i32>
     ensures { result ≡ level_of negative s }
 {
     if MOST <= s {
-        return Level::Out;
+        None
+    } else {
+        let n = s as i32;
+        Some(if negative { -1 - n } else { n + 1 })
     }
-    let n = s as i32;
-    if negative {
-        return Level::Is(-1 - n);
-    }
-    Level::Is(n + 1)
 }

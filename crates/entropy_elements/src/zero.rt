@@ -4,9 +4,5 @@ ghost use Rattle.std.specs.Prelude.{◌≡◌, pos, length, replicate};
 pub fn zero(out: &mut [i32])
     ensures { out.new ≡ replicate (length out.old) (pos 0) }
 {
-    let mut i = 0;
-    while i < out.len() {
-        out[i] = 0;
-        i += 1;
-    }
+    out.fill(0);
 }

@@ -6,14 +6,14 @@ use mathlib.Core.Bool.{Bool, false}
 use mathlib.Core.List.{List}
 use lib.Dec.{eqb}
 use lib.ListN.{drop}
-use Rattle.answers.specs.Stepped.{halts, Stepped}
+use Rattle.std.specs.Prelude.{Ok, Err}
+use Rattle.answers.specs.Stepped.{Stepped}
 use Rattle.answers.specs.declared.Refusal.{Refusal}
 use Rattle.bitstream.specs.Bits.{bits_of}
 use Rattle.bitstream.specs.Reading.{read_bits}
-use Rattle.bitstream.specs.Told.{InPayload, told_read, outcome_at}
+use Rattle.answers.specs.Refusals.{number_of}
+use Rattle.bitstream.specs.Told.{InPayload, gives, refusal, outcome_at}
 use Rattle.bitstream.specs.declared.Cursor.{Cursor}
-use Rattle.bitstream.specs.declared.Read.{Read}
-use Rattle.bitstream.specs.declared.Read.TheVariants.{Value, No}
 use Rattle.bitstream.proofs.AnswerLaws.{read_no, read-got, read-placed, bit-no, bit-got, bit-placed}
 use Rattle.codeword.specs.Codewords.{read_code}
 use Rattle.codeword.specs.declared.Codebook.{Codebook}
@@ -22,31 +22,37 @@ use Rattle.entropy_elements.specs.Decoding.{State, StepC, level_to, step}
 use Rattle.entropy_steps.specs.Given.{Gives, HasBit}
 use Rattle.entropy_steps.specs.LevelSteps.{sign_due, LevelStepped}
 use Rattle.entropy_steps.specs.declared.Acs.{Acs}
-use Rattle.entropy_steps.specs.declared.LevelStep.TheVariants.{No as NoLevel}
 use Rattle.entropy_steps.proofs.ElementLaws.{book_of, stops, element-no}
 
-module _ (p : List ℕ) (at : ℕ) (r : Read) (pl : InPayload p at) where
+module _ (p : List ℕ) (at : ℕ) (pl : InPayload p at) where
   abbrev B : List Bool
   B = bits_of p
 
   -- ---- a codeword of cb, with which the elements st begin
 
-  module _ (cb : Codebook) (e : told_read r ≡ outcome_at (read_code cb) p at) where
-    pub read-gives : (v : ℕ) (c : Cursor) → r ≡ Value v c → Gives (read_code cb) B at v c.at
-    read-gives v c q =
+  module _ (cb : Codebook) where
+    pub read-gives : (v q : ℕ) → gives v q ≡ outcome_at (read_code cb) p at → Gives (read_code cb) B at v q
+    read-gives v q e =
+        let c : Cursor = record { at = q } in
         let local = read_code-local cb in
-        record { is = read-got (read_code cb) p at r pl e local v c q; within = (read-placed (read_code cb) p at r pl e local v c q).within }
+        record {
+          is = read-got (read_code cb) p at (Ok (v, c)) pl e local v c refl;
+          within = (read-placed (read_code cb) p at (Ok (v, c)) pl e local v c refl).within;
+        }
 
     pub unread : {C T : Type 0} {to : C → T → StepC} {Keeps : T → Type 0} (st : C → State) → ((c : C) → book_of (st c) ≡ cb)
-        → ((c : C) → stops (st c) (drop at B) ≡ false) → (why : Refusal) → r ≡ No why → Stepped to Keeps (λ c. step (st c) (drop at B)) (halts why)
-    unread st own due why q = element-no st cb (drop at B) own due (read_no (read_code cb) p at r pl e why q)
+        → ((c : C) → stops (st c) (drop at B) ≡ false) → (why : Refusal) → refusal (number_of why) ≡ outcome_at (read_code cb) p at
+        → Stepped to Keeps (λ c. step (st c) (drop at B)) (Err why)
+    unread st own due why e = element-no st cb (drop at B) own due (read_no (read_code cb) p at (Err why) pl e why refl)
 
   -- ---- a level's sign
 
-  module _ (e : told_read r ≡ outcome_at (read_bits 1) p at) where
-    pub has-bit : (v : ℕ) (c : Cursor) → r ≡ Value v c → HasBit B at (eqb v 1) c.at
-    has-bit v c q = record { is = bit-got p at r pl e v c q; within = (bit-placed p at r pl e v c q).within }
+  pub has-bit : (v q : ℕ) → gives v q ≡ outcome_at (read_bits 1) p at → HasBit B at (eqb v 1) q
+  has-bit v q e =
+      let c : Cursor = record { at = q } in
+      record { is = bit-got p at (Ok (v, c)) pl e v c refl; within = (bit-placed p at (Ok (v, c)) pl e v c refl).within }
 
-    pub no_sign : (s : Acs) (symbol : ℕ) (why : Refusal) → r ≡ No why → LevelStepped B s.place (sign_due s symbol at) (NoLevel why)
-    unfolding level_to
-    no_sign s symbol why q = record { is = λ left. bit-no p at r pl e why q (level_to left s.runs symbol) refl; keeps = tt }
+  pub no_sign : (s : Acs) (symbol : ℕ) (why : Refusal) → refusal (number_of why) ≡ outcome_at (read_bits 1) p at → LevelStepped B s.place (sign_due s symbol at) (Err why)
+  unfolding level_to
+  no_sign s symbol why e =
+      record { is = λ left. bit-no p at (Err why) pl e why refl (level_to left s.runs symbol) refl; keeps = tt }

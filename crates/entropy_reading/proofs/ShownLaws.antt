@@ -24,10 +24,8 @@ use Rattle.entropy_steps.specs.RunSteps.{BooksInUse, RunDue, run_step_of, RunSte
 use Rattle.entropy_steps.specs.LevelSteps.{level_step_of}
 use Rattle.entropy_steps.specs.PairSteps.{PairStepped}
 use Rattle.entropy_steps.specs.declared.Acs.{Acs}
-use Rattle.entropy_steps.specs.declared.RunStep.{RunStep}
-use Rattle.entropy_steps.specs.declared.RunStep.TheVariants.{To, No}
-use Rattle.entropy_steps.specs.declared.LevelStep.{LevelStep}
-use Rattle.entropy_steps.specs.declared.LevelStep.TheVariants.{No as NoLevel}
+use Rattle.std.specs.Prelude.{Result, Ok, Err}
+use lib.IntN.{ℤ}
 use Rattle.entropy_steps.proofs.RunLaws.{run_step_of-to, run-stepped}
 use Rattle.entropy_steps.proofs.LevelLaws.{sign-stepped, level-stepped}
 use Rattle.entropy_steps.proofs.PairLaws.{pair-no, pair-on}
@@ -86,21 +84,21 @@ module _ (B : List Bool) (total : ℕ) (s : Acs) (due : RunDue B total s) (run l
   abbrev mid : ℕ
   mid = s.at + run.len
 
-  led : (x : RunStep) → run_step_of total s run.value mid ≡ x → RunStepped B total s x
-  led x e = subst (λ (y : RunStep). RunStepped B total s y) e (run-stepped B total s due run.value mid shows.first)
+  led : (x : Result Acs Refusal) → run_step_of total s run.value mid ≡ x → RunStepped B total s x
+  led x e = subst (λ (y : Result Acs Refusal). RunStepped B total s y) e (run-stepped B total s due run.value mid shows.first)
 
-  pub shown-far : (why : Refusal) → run_step_of total s run.value mid ≡ No why → PairStepped B total s (NoLevel why)
-  shown-far why e = pair-no B total s why (led (No why) e)
+  pub shown-far : (why : Refusal) → run_step_of total s run.value mid ≡ Err why → PairStepped B total s (Err why)
+  shown-far why e = pair-no B total s why (led (Err why) e)
 
-  module _ (n : Acs) (e : run_step_of total s run.value mid ≡ To n) where
+  module _ (n : Acs) (e : run_step_of total s run.value mid ≡ Ok n) where
     pub shown-room : n.place < total
-    shown-room = (led (To n) e).keeps.room
+    shown-room = (led (Ok n) e).keeps.room
 
     pub shown-on : PairStepped B total s (level_step_of (level_of negative level.value) n level.value (mid + level.len + 1))
     shown-on =
-        let x : LevelStep = level_step_of (level_of negative level.value) n level.value (mid + level.len + 1) in
+        let x : Result (ℤ × Acs) Refusal = level_step_of (level_of negative level.value) n level.value (mid + level.len + 1) in
         let second : Gives (read_code n.levels) B n.at level.value (mid + level.len) =
         subst (λ (t : Acs). Gives (read_code t.levels) B t.at level.value (mid + level.len)) (sym (run_step_of-to total s run.value mid n e)) shows.second in
-        pair-on B total s n (led (To n) e) x
+        pair-on B total s n (led (Ok n) e) x
         (level-stepped B n level.value (mid + level.len) second x
-        (sign-stepped B n level.value (mid + level.len) negative (mid + level.len + 1) shows.sign (led (To n) e).keeps.books.runs))
+        (sign-stepped B n level.value (mid + level.len) negative (mid + level.len + 1) shows.sign (led (Ok n) e).keeps.books.runs))

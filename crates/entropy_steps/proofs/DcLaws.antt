@@ -15,8 +15,8 @@ use Rattle.codeword_books.proofs.BookLaws.{dc_book-in-use}
 use Rattle.codeword_signs.specs.Signs.{is_negative, integer_of, turned}
 use Rattle.entropy_elements.specs.Limits.{most}
 use Rattle.entropy_elements.specs.Decoding.{after_dc, dc_to}
-use Rattle.entropy_elements.specs.Values.{dc_of, first_dc, next_dc}
-use Rattle.entropy_elements.specs.declared.values.Dc.TheVariants.{Is, Out}
+use Rattle.std.specs.Prelude.{None}
+use Rattle.entropy_elements.specs.Values.{some_dc, dc_of, first_dc, next_dc}
 use Rattle.entropy_steps.specs.Given.{Gives}
 use Rattle.entropy_steps.specs.DcSteps.{first_state, next_state, first_due, dc_due, dc_step_of, DcStepped}
 use Rattle.entropy_steps.specs.declared.Dcs.{Dcs}
@@ -29,7 +29,7 @@ unfolding dc_to dc_of dc_step_of
 dc-told B z neg m q h = go (leb (nat_abs z) most) refl
   where
     go : (b : Bool) → leb (nat_abs z) most ≡ b
-        → DcStepped B (λ bs c. cond b (moved (after_dc c.dcs c.places z neg (dc_book m)) (z ∷ []) (drop q bs)) (refuses 8)) (dc_step_of (cond b (Is z neg m) Out) q)
+        → DcStepped B (λ bs c. cond b (moved (after_dc c.dcs c.places z neg (dc_book m)) (z ∷ []) (drop q bs)) (refuses 8)) (dc_step_of (cond b (some_dc z neg m) None) q)
     go true e = record { is = λ c. refl; keeps = record { range = leb-true (nat_abs z) most e; within = h; book = dc_book-in-use m } }
     go false e = record { is = λ c. refl; keeps = tt }
 

@@ -11,7 +11,8 @@ use borrow.Author.Tests.{ne_eqb}
 use Rattle.answers.specs.Reading.{got, refused}
 use Rattle.answers.specs.Refusals.{number_of}
 use Rattle.answers.specs.Machine.{stop, on_read}
-use Rattle.answers.specs.Stepped.{ElementAnswer, halts, Stepped}
+use Rattle.std.specs.Prelude.{Result, Err}
+use Rattle.answers.specs.Stepped.{Stepped}
 use Rattle.answers.specs.declared.Refusal.{Refusal}
 use Rattle.answers.proofs.SteppedLaws.{stepped-no, stepped-got}
 use Rattle.common.proofs.Choices.{cond_no}
@@ -59,9 +60,9 @@ module _ {C : Type 0} (st : C → State) (cb : Codebook) (bs : List Bool) (own :
   begins c = step_is (st c) bs ∙ cond_no _ _ (due c) ∙ ap (λ (b : Codebook). on_read (read_code b bs) (follows (st c))) (own c)
 
   module _ {T : Type 0} {to : C → T → StepC} {Keeps : T → Type 0} where
-    pub element-no : {why : Refusal} → read_code cb bs ≡ refused (number_of why) → Stepped to Keeps (λ c. step (st c) bs) (halts why)
+    pub element-no : {why : Refusal} → read_code cb bs ≡ refused (number_of why) → Stepped to Keeps (λ c. step (st c) bs) (Err why)
     element-no e = stepped-no (λ c. follows (st c)) begins e
 
-    pub element-got : {v : ℕ} {t : List Bool} {a : ElementAnswer T} → read_code cb bs ≡ got v t → Stepped to Keeps (λ c. follows (st c) v t) a
+    pub element-got : {v : ℕ} {t : List Bool} {a : Result T Refusal} → read_code cb bs ≡ got v t → Stepped to Keeps (λ c. follows (st c) v t) a
         → Stepped to Keeps (λ c. step (st c) bs) a
     element-got e s = stepped-got (λ c. follows (st c)) begins e s

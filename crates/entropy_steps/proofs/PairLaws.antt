@@ -16,23 +16,21 @@ use Rattle.entropy_steps.specs.RunSteps.{RunStepped}
 use Rattle.entropy_steps.specs.LevelSteps.{level_due, LevelStepped}
 use Rattle.entropy_steps.specs.PairSteps.{PairStepped}
 use Rattle.entropy_steps.specs.declared.Acs.{Acs}
-use Rattle.entropy_steps.specs.declared.RunStep.TheVariants.{To, No}
-use Rattle.entropy_steps.specs.declared.LevelStep.{LevelStep}
-use Rattle.entropy_steps.specs.declared.LevelStep.TheVariants.{To as LevelTo, No as NoLevel}
+use Rattle.std.specs.Prelude.{Result, Ok, Err}
 
 -- the run is refused
-pub pair-no : (B : List Bool) (total : ℕ) (s : Acs) (why : Refusal) → RunStepped B total s (No why) → PairStepped B total s (NoLevel why)
+pub pair-no : (B : List Bool) (total : ℕ) (s : Acs) (why : Refusal) → RunStepped B total s (Err why) → PairStepped B total s (Err why)
 pair-no B total s why r out = record { bits = drop s.at B; is = from-refused _ out (drop s.at B) (number_of why) (r.is tt) }
 
 -- the run moves to n, and the level there is answered by x
-pub pair-on : (B : List Bool) (total : ℕ) (s n : Acs) → RunStepped B total s (To n) → (x : LevelStep)
+pub pair-on : (B : List Bool) (total : ℕ) (s n : Acs) → RunStepped B total s (Ok n) → (x : Result (ℤ × Acs) Refusal)
     → LevelStepped B n.place (level_due n) x → PairStepped B total s x
-pair-on B total s n r (NoLevel why) l = λ out.
+pair-on B total s n r (Err why) l = λ out.
     record {
       bits = drop n.at B;
       is = from-moved _ out (drop s.at B) _ _ _ (r.is tt) ∙ from-refused _ (out ++ nil (n.place - s.place)) (drop n.at B) (number_of why) (l.is (total - n.place));
     }
-pair-on B total s n r (LevelTo v t) l =
+pair-on B total s n r (Ok (v, t)) l =
     let e : t.place ≡ n.place + 1 = l.keeps.onward in
     let left : total - n.place - 1 ≡ total - t.place = omega arith in
     let zeros : n.place - s.place ≡ t.place - 1 - s.place = omega arith in

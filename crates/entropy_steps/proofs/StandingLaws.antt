@@ -21,12 +21,11 @@ use Rattle.entropy_elements.specs.Decoding.{nil, State, first, run, after_dc, st
 use Rattle.entropy_elements.proofs.StepLaws.{step-ended, from-moved, from-stop, from-refused}
 use Rattle.entropy_steps.specs.DcSteps.{first_state, next_state, first_due, dc_due, behind_dc, dc_moves, DcsIn, DcStepped}
 use Rattle.entropy_steps.specs.RunSteps.{run_state}
-use Rattle.entropy_steps.specs.PairSteps.{PairTo, PairStepped}
+use Rattle.entropy_steps.specs.PairSteps.{PairTo}
 use Rattle.entropy_steps.specs.Standing.{CoefficientsStand, left_behind, DcsStand, AcsStand, behind_dcs}
 use Rattle.entropy_steps.specs.declared.Dcs.{Dcs}
-use Rattle.entropy_steps.specs.declared.DcStep.TheVariants.{To, No}
+use Rattle.std.specs.Prelude.{Ok, Err}
 use Rattle.entropy_steps.specs.declared.Acs.{Acs}
-use Rattle.entropy_steps.specs.declared.LevelStep.TheVariants.{No as NoLevel}
 use Rattle.entropy_steps.proofs.ZeroLaws.{take_put, zero-put}
 
 -- ---- a value is stored at place i behind zeros; a step is refused; no element is due
@@ -97,10 +96,10 @@ module _ (B : List Bool) (blocks : ℕ) (out : List ℤ) (some : 0 < blocks) (cl
       go zero h s = absurd (omega arith)
       go (suc b) h s = let e : b ≡ suc b - 1 = omega arith in subst (λ (k : ℕ). CoefficientsStand B (suc b) (first k (63 * suc b)) 0 0 out) e s
 
-  pub dcs-first : (t : Dcs) → DcStepped B first_due (To t) → DcsStand B blocks 1 t (set out 0 t.dc)
+  pub dcs-first : (t : Dcs) → DcStepped B first_due (Ok t) → DcsStand B blocks 1 t (set out 0 t.dc)
   dcs-first t g = put-dc first-due t some g.keeps (g.is (left_behind blocks 1))
 
-  pub first-rejects : (why : Refusal) → DcStepped B first_due (No why) → Rejects (number_of why) (decode blocks B)
+  pub first-rejects : (why : Refusal) → DcStepped B first_due (Err why) → Rejects (number_of why) (decode blocks B)
   first-rejects why g = refuse-here first-due (number_of why) (g.is (left_behind blocks 1))
 
 -- the others
@@ -110,10 +109,10 @@ module _ {B : List Bool} {blocks n : ℕ} {s : Dcs} {out : List ℤ} (d : DcsSta
       let e : blocks - n ≡ suc (blocks - (n + 1)) = omega arith in
       subst (λ (k : ℕ). CoefficientsStand B blocks (after_dc k (63 * blocks) s.dc s.negative s.book) n s.at out) e d.here
 
-  pub dcs-put : (t : Dcs) → n < blocks → DcStepped B (dc_due s) (To t) → DcsStand B blocks (n + 1) t (set out n t.dc)
+  pub dcs-put : (t : Dcs) → n < blocks → DcStepped B (dc_due s) (Ok t) → DcsStand B blocks (n + 1) t (set out n t.dc)
   dcs-put t h g = put-dc (next-due h) t h g.keeps (g.is (left_behind blocks (n + 1)))
 
-  pub next-rejects : (why : Refusal) → n < blocks → DcStepped B (dc_due s) (No why) → Rejects (number_of why) (decode blocks B)
+  pub next-rejects : (why : Refusal) → n < blocks → DcStepped B (dc_due s) (Err why) → Rejects (number_of why) (decode blocks B)
   next-rejects why h g = refuse-here (next-due h) (number_of why) (g.is (left_behind blocks (n + 1)))
 
   pub dcs-all : blocks ≤ n → AcsStand B blocks (behind_dcs blocks s.at) out
@@ -143,10 +142,6 @@ module _ {B : List Bool} {blocks : ℕ} {s : Acs} {out : List ℤ} (a : AcsStand
         room = g.room;
         books = g.books;
       }
-
-  -- a refusal is the whole reading's
-  pub acs-rejects : (why : Refusal) → PairStepped B (64 * blocks) s (NoLevel why) → Rejects (number_of why) (decode blocks B)
-  acs-rejects why g = stands-rejects step finish a.here.stands (number_of why) (g (take s.place out))
 
   pub acs-ended : ended (drop s.at B) ≡ true → decoding (read s.at) out ≡ settled (pos 0) B (64 * blocks) (decode blocks B)
   acs-ended e = stop-here a.here (step-ended (64 * blocks - s.place) s.runs s.levels (drop s.at B) e) refl

@@ -1,18 +1,16 @@
 -- A DC: what the code answers for it, and that the reader of coefficients (Decoding.antt of entropy_elements) steps so. B is a payload's bits. Document
 -- 01, "Choice of codebook" and refusal 8.
-use Rattle.std.specs.Prelude.{ℕ, ◌≤◌, Bool, List, [], ◌∷◌, nat_abs, length, drop}
+use Rattle.std.specs.Prelude.{ℕ, ◌≤◌, Bool, List, [], ◌∷◌, nat_abs, length, drop, Result, Ok, Err, Option, Some, None}
 use Rattle.answers.specs.Machine.{moved}
-use Rattle.answers.specs.Stepped.{ElementAnswer, leads, halts, Stepped}
+use Rattle.answers.specs.Stepped.{Stepped}
+use Rattle.answers.specs.declared.Refusal.{Refusal}
 use Rattle.answers.specs.declared.Refusal.TheVariants.{Range}
 use Rattle.codeword.specs.Words.{InUse}
 use Rattle.codeword_books.specs.Books.{dc_book}
 use Rattle.entropy_elements.specs.Limits.{most}
 use Rattle.entropy_elements.specs.Decoding.{State, first, next, StepC, after_dc, step}
 use Rattle.entropy_elements.specs.declared.values.Dc.{Dc}
-use Rattle.entropy_elements.specs.declared.values.Dc.TheVariants.{Is, Out}
 use Rattle.entropy_steps.specs.declared.Dcs.{Dcs}
-use Rattle.entropy_steps.specs.declared.DcStep.{DcStep}
-use Rattle.entropy_steps.specs.declared.DcStep.TheVariants.{To, No}
 
 -- ---- which DC is due: the first, or the one behind s
 
@@ -35,13 +33,9 @@ dc_due s B c = step (next_state s c) (drop s.at B)
 
 -- ---- where it leads
 
-unfoldable pub dc_step_of : Dc → ℕ → DcStep
-dc_step_of (Is dc neg m) at = To (record { at = at; dc = dc; negative = neg; book = dc_book m })
-dc_step_of Out at = No Range
-
-abbrev pub dc_answer : DcStep → ElementAnswer Dcs
-dc_answer (To n) = leads n
-dc_answer (No why) = halts why
+unfoldable pub dc_step_of : Option Dc → ℕ → Result Dcs Refusal
+dc_step_of (Some d) at = Ok (record { at = at; dc = d.dc; negative = d.negative; book = dc_book d.magnitude })
+dc_step_of None at = Err Range
 
 -- the element behind it
 abbrev pub behind_dc : Dcs → DcsLeft → State
@@ -57,5 +51,5 @@ pub record DcsIn (B : List Bool) (n : Dcs) : Type 0 where
   pub book : InUse n.book
 
 -- the DC that is due is answered by r
-abbrev pub DcStepped : List Bool → (List Bool → DcsLeft → StepC) → DcStep → Type 0
-DcStepped B due r = Stepped (dc_moves B) (DcsIn B) (due B) (dc_answer r)
+abbrev pub DcStepped : List Bool → (List Bool → DcsLeft → StepC) → Result Dcs Refusal → Type 0
+DcStepped B due r = Stepped (dc_moves B) (DcsIn B) (due B) r

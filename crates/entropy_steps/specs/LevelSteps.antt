@@ -1,17 +1,14 @@
 -- A level with its sign: what the code answers for it, and that the reader of coefficients steps so, with `left` places left before it. Document 01, AC
 -- and refusal 8.
-use Rattle.std.specs.Prelude.{ℕ, ◌+◌, ◌-◌, ◌≤◌, ◌≡◌, Bool, List, [], ◌∷◌, ℤ, length, drop}
+use Rattle.std.specs.Prelude.{ℕ, ◌+◌, ◌-◌, ◌≤◌, ◌≡◌, Bool, List, [], ◌∷◌, ℤ, length, drop, Result, Ok, Err, Option, Some, None}
 use Rattle.answers.specs.Machine.{moved}
-use Rattle.answers.specs.Stepped.{ElementAnswer, leads, halts, Stepped}
+use Rattle.answers.specs.Stepped.{Stepped}
+use Rattle.answers.specs.declared.Refusal.{Refusal}
 use Rattle.answers.specs.declared.Refusal.TheVariants.{Range}
 use Rattle.codeword_books.specs.Books.{level_book}
 use Rattle.entropy_elements.specs.Decoding.{State, run, level, StepC, level_to, step}
-use Rattle.entropy_elements.specs.declared.values.Level.{Level}
-use Rattle.entropy_elements.specs.declared.values.Level.TheVariants.{Is, Out}
 use Rattle.entropy_steps.specs.RunSteps.{BooksInUse}
 use Rattle.entropy_steps.specs.declared.Acs.{Acs}
-use Rattle.entropy_steps.specs.declared.LevelStep.{LevelStep}
-use Rattle.entropy_steps.specs.declared.LevelStep.TheVariants.{To, No}
 
 -- ---- what is due: the level at s; or its sign alone, at bit `at` behind the level's symbol
 
@@ -26,13 +23,9 @@ sign_due s symbol at B left = level_to left s.runs symbol (drop at B)
 
 -- ---- where it leads
 
-unfoldable pub level_step_of : Level → Acs → ℕ → ℕ → LevelStep
-level_step_of (Is v) s symbol at = To v (record { at = at; place = s.place + 1; runs = s.runs; levels = level_book symbol })
-level_step_of Out s symbol at = No Range
-
-abbrev pub level_answer : LevelStep → ElementAnswer (ℤ × Acs)
-level_answer (To v n) = leads (v, n)
-level_answer (No why) = halts why
+unfoldable pub level_step_of : Option ℤ → Acs → ℕ → ℕ → Result (ℤ × Acs) Refusal
+level_step_of (Some v) s symbol at = Ok (v, record { at = at; place = s.place + 1; runs = s.runs; levels = level_book symbol })
+level_step_of None s symbol at = Err Range
 
 abbrev pub level_moves : List Bool → ℕ → ℤ × Acs → StepC
 level_moves B left a = moved (run (left - 1) a.1.runs a.1.levels) (a.0 ∷ []) (drop a.1.at B)
@@ -44,5 +37,5 @@ pub record LevelIn (B : List Bool) (place : ℕ) (n : Acs) : Type 0 where
   pub books : BooksInUse n
 
 -- the level that is due at a place is answered by r
-abbrev pub LevelStepped : List Bool → ℕ → (List Bool → ℕ → StepC) → LevelStep → Type 0
-LevelStepped B place due r = Stepped (level_moves B) (λ a. LevelIn B place a.1) (due B) (level_answer r)
+abbrev pub LevelStepped : List Bool → ℕ → (List Bool → ℕ → StepC) → Result (ℤ × Acs) Refusal → Type 0
+LevelStepped B place due r = Stepped (level_moves B) (λ a. LevelIn B place a.1) (due B) r

@@ -1,10 +1,9 @@
 -- Where a reading of coefficients stands between two steps: the outcome from here is the outcome from the start, and the places of the list that are
 -- not settled are 0. Each loop's invariant is one of these records.
-use Rattle.std.specs.Prelude.{ℕ, ◌-◌, ◌*◌, ◌≤◌, ◌≡◌, Bool, List, ℤ, nat_abs, length, drop}
+use Rattle.std.specs.Prelude.{ℕ, ◌-◌, ◌*◌, ◌≤◌, ◌≡◌, Bool, List, ℤ, nat_abs, length, drop, Result, Ok, Err}
 use Rattle.answers.specs.Machine.{Rejects, Stands}
 use Rattle.answers.specs.Refusals.{number_of}
-use Rattle.answers.specs.declared.Reached.{Reached}
-use Rattle.answers.specs.declared.Reached.TheVariants.{At, No}
+use Rattle.answers.specs.declared.Refusal.{Refusal}
 use Rattle.codeword.specs.Words.{InUse}
 use Rattle.codeword_books.specs.Books.{run_book, level_book}
 use Rattle.entropy_elements.specs.Limits.{most}
@@ -47,6 +46,6 @@ abbrev pub behind_dcs : ℕ → ℕ → Acs
 behind_dcs blocks at = record { at = at; place = blocks; runs = run_book 4; levels = level_book 1 }
 
 -- what the reading of the DCs came to
-abbrev pub DcsRead : List Bool → ℕ → List ℤ → Reached → Type 0
-DcsRead B blocks out (At at) = AcsStand B blocks (behind_dcs blocks at) out
-DcsRead B blocks out (No why) = Rejects (number_of why) (decode blocks B)
+abbrev pub DcsRead : List Bool → ℕ → List ℤ → Result ℕ Refusal → Type 0
+DcsRead B blocks out (Ok at) = AcsStand B blocks (behind_dcs blocks at) out
+DcsRead B blocks out (Err why) = Rejects (number_of why) (decode blocks B)

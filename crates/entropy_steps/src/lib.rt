@@ -10,10 +10,10 @@ ghost use Rattle.entropy_steps.specs.LevelSteps.{level_step_of};
 
 use answers::Refusal;
 use codeword::Codebook;
-use entropy_elements::values::{Dc, Level};
+use entropy_elements::values::Dc;
 
 // What the next DC looks back at: where it begins, the last DC, the last difference's sign and the codebook that its magnitude chose.
-#[derive(Clone, Copy)]
+#[derive(Clone, Copy, Debug, PartialEq, Eq)]
 pub struct Dcs {
     pub at: usize,
     pub dc: i32,
@@ -21,36 +21,26 @@ pub struct Dcs {
     pub book: Codebook,
 }
 
-#[derive(Clone, Copy)]
-pub enum DcStep {
-    To(Dcs),
-    No(Refusal),
-}
-
-// Where a DC leads whose codeword ends at the bit `at`.
-pub fn dc_to(d: Dc, at: usize) -> DcStep
+// Where a DC leads whose codeword ends at the bit `at`; none is a DC out of range.
+#[tactic(auto, unfolding(crate::specs::DcSteps::dc_step_of))]
+pub fn dc_to(d: Option<Dc>, at: usize) -> Result<Dcs, Refusal>
     ensures { result ≡ dc_step_of d at }
 {
-    match d {
-        Dc::Out => DcStep::No(Refusal::Range),
-        Dc::Is {
-            dc,
-            negative,
-            magnitude,
-        } => {
-            let book = codeword_books::dc_diff_codebook(magnitude);
-            DcStep::To(Dcs {
-                at,
-                dc,
-                negative,
-                book,
-            })
-        }
-    }
+    let Dc {
+        dc,
+        negative,
+        magnitude,
+    } = d.ok_or(Refusal::Range)?;
+    Ok(Dcs {
+        at,
+        dc,
+        negative,
+        book: codeword_books::dc_diff_codebook(magnitude),
+    })
 }
 
 // What the next run or level looks back at: where it begins, its place in the list, and the codebooks of the next run and the next level.
-#[derive(Clone, Copy)]
+#[derive(Clone, Copy, Debug, PartialEq, Eq)]
 pub struct Acs {
     pub at: usize,
     pub place: usize,
@@ -58,57 +48,35 @@ pub struct Acs {
     pub levels: Codebook,
 }
 
-#[derive(Clone, Copy)]
-pub enum RunStep {
-    To(Acs),
-    No(Refusal),
-}
-
 // Where a run leads that ends at the bit `at`, in a list of `total` places: the level that is due stands at its end.
-pub fn run_to(total: usize, s: Acs, run: u32, at: usize) -> RunStep
+#[tactic(auto, unfolding(crate::specs::RunSteps::run_step_of))]
+pub fn run_to(total: usize, s: Acs, run: u32, at: usize) -> Result<Acs, Refusal>
     requires { s.place ≤ total }
     ensures { result ≡ run_step_of total s run at }
 {
     if total - s.place <= run as usize {
-        return RunStep::No(Refusal::Overrun);
+        return Err(Refusal::Overrun);
     }
-    let runs = codeword_books::run_codebook(run);
-    let levels = s.levels;
-    let place = s.place + run as usize;
-    RunStep::To(Acs {
+    Ok(Acs {
         at,
-        place,
-        runs,
-        levels,
+        place: s.place + run as usize,
+        runs: codeword_books::run_codebook(run),
+        levels: s.levels,
     })
 }
 
-#[derive(Clone, Copy)]
-pub enum LevelStep {
-    To(i32, Acs),
-    No(Refusal),
-}
-
-// Where a level leads whose sign ends at the bit `at`.
-pub fn level_to(level: Level, s: Acs, symbol: u32, at: usize) -> LevelStep
+// Where a level leads whose sign ends at the bit `at`; none is a level out of range.
+#[tactic(auto, unfolding(crate::specs::LevelSteps::level_step_of))]
+pub fn level_to(level: Option<i32>, s: Acs, symbol: u32, at: usize) -> Result<(i32, Acs), Refusal>
     requires { s.place < list_limit }
     ensures { result ≡ level_step_of level s symbol at }
 {
-    match level {
-        Level::Out => LevelStep::No(Refusal::Range),
-        Level::Is(v) => {
-            let runs = s.runs;
-            let levels = codeword_books::level_codebook(symbol);
-            let place = s.place + 1;
-            LevelStep::To(
-                v,
-                Acs {
-                    at,
-                    place,
-                    runs,
-                    levels,
-                },
-            )
-        }
-    }
+    let level = level.ok_or(Refusal::Range)?;
+    let next = Acs {
+        at,
+        place: s.place + 1,
+        runs: s.runs,
+        levels: codeword_books::level_codebook(symbol),
+    };
+    Ok((level, next))
 }

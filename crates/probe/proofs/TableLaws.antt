@@ -7,7 +7,7 @@ use native.Mathlib.Omega.{arith}
 use lib.ListN.{length, get_or, get_or-eq_default}
 use borrow.Author.Tests.{lt-ltb, le-ltb}
 use Rattle.probe.specs.Tables.{unknown_entry, entry_at, entry_of, scans, scan_tables}
-use Rattle.probe.specs.declared.tables.Entry.{Entry}
+use Rattle.probe.specs.Numbers.{Number}
 
 -- ---- an entry
 
@@ -24,15 +24,15 @@ module _ (t : List ℕ) (i : ℕ) where
 pub entry-none : (ts : List (List ℕ)) (n i : ℕ) → length ts ≤ n → entry_of ts n i ≡ unknown_entry
 entry-none ts n i h = ap (λ (t : List ℕ). entry_at t i) (get_or-eq_default ts [] h) ∙ entry_past [] i (omega arith)
 
-module _ {e : Entry} {us : List (List ℕ)} (n i : ℕ) where
+module _ {e : Number} {us : List (List ℕ)} (n i : ℕ) where
   pub entry_in : {ts : List (List ℕ)} → ts ≡ us → e ≡ entry_of ts n i → e ≡ entry_of us n i
   entry_in same is = is ∙ ap (λ (x : List (List ℕ)). entry_of x n i) same
 
   pub entry-unknown : us ≡ [] → e ≡ unknown_entry → e ≡ entry_of us n i
   entry-unknown none is = entry_in (sym none) (is ∙ sym (entry_past [] i (omega arith)))
 
-pub entry-parts : {e f : Entry} → e ≡ f → (e.result ≡ f.result) × (e.value ≡ f.value)
-entry-parts is = (ap (λ (x : Entry). x.result) is, ap (λ (x : Entry). x.value) is)
+pub entry-parts : {e f : Number} → e ≡ f → (e.result ≡ f.result) × (e.value ≡ f.value)
+entry-parts is = (ap (λ (x : Number). x.result) is, ap (λ (x : Number). x.value) is)
 
 -- ---- the tables of an unknown selector
 

@@ -8,8 +8,7 @@ use Prim.Native.Nat.{ℕ}
 use Rattle.bitstream.specs.Told.{Outcome}
 use Rattle.bitstream.specs.Bits.{val}
 use Rattle.probe.specs.Bits.{result_of, next_told, put_outcome, put_buffer, align_outcome, Answers}
-use Rattle.probe.specs.declared.tables.Entry.{Entry}
-use Rattle.probe.specs.declared.selectors.Number.{Number}
+use Rattle.probe.specs.Numbers.{Number}
 
 -- probe_read_bits, probe_read_bit, probe_zero_prefix, probe_read_exp_golomb, probe_read_combo, and each field of probe_first_fields
 pub read-unique : (x : Outcome) {r r' v v' n n' : ℕ} → Answers x r v n → Answers x r' v' n' → (r ≡ r') × (v ≡ v') × (n ≡ n')
@@ -31,7 +30,7 @@ pub align-byte-unique : (at : ℕ) {r r' p p' : ℕ} → r ≡ result_of (align_
 align-byte-unique at e e' f f' = (e ∙ sym e', f ∙ sym f')
 
 -- probe_scan
-pub entry-unique : (x : Entry) {r r' v v' : ℕ} → r ≡ x.result → r' ≡ x.result → v ≡ x.value → v' ≡ x.value → (r ≡ r') × (v ≡ v')
+pub entry-unique : (x : Number) {r r' v v' : ℕ} → r ≡ x.result → r' ≡ x.result → v ≡ x.value → v' ≡ x.value → (r ≡ r') × (v ≡ v')
 entry-unique x e e' f f' = (e ∙ sym e', f ∙ sym f')
 
 -- probe_blocks_per_mb and probe_alpha_code

@@ -1,7 +1,7 @@
 -- What a selector stands for, as a result and a number.
 use Rattle.alpha_elements.specs.Kinds.{Selection, selects, no_kind, code_of}
 use Rattle.slice_shape.specs.Shapes.{BlocksAnswer, counts, unknown}
-use Rattle.probe.specs.declared.selectors.Number.{Number}
+use Rattle.probe.specs.Numbers.{Number}
 
 abbrev pub blocks_number : BlocksAnswer → Number
 blocks_number (counts n) = record { result = 0; value = n }

@@ -2,18 +2,18 @@
 -- it asks for has no such entry.
 use Rattle.std.specs.Prelude.{ℕ, true, false, cond, List, [], ◌∷◌, ltb, length, get_or}
 use Rattle.quant.specs.Scans.{scan_of, inv_of}
-use Rattle.probe.specs.declared.tables.Entry.{Entry}
+use Rattle.probe.specs.Numbers.{Number}
 
 -- ---- an entry
 
-abbrev pub unknown_entry : Entry
+abbrev pub unknown_entry : Number
 unknown_entry = record { result = 13; value = 0 }
 
-unfoldable pub entry_at : List ℕ → ℕ → Entry
+unfoldable pub entry_at : List ℕ → ℕ → Number
 entry_at t i = cond (ltb i (length t)) (record { result = 0; value = get_or t i 0 }) unknown_entry
 
 -- of the table of that number
-abbrev pub entry_of : List (List ℕ) → ℕ → ℕ → Entry
+abbrev pub entry_of : List (List ℕ) → ℕ → ℕ → Number
 entry_of ts n i = entry_at (get_or ts n []) i
 
 -- ---- the tables

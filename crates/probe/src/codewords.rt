@@ -5,7 +5,7 @@ ghost use Rattle.codeword.specs.Codewords.{read_code};
 ghost use Rattle.codeword.specs.declared.Codebook.TheVariants.{ExpGolomb, RiceExp};
 ghost use Rattle.probe.specs.Bits.{result_of, value_of, next_told};
 
-use crate::bits;
+use crate::given;
 use bitstream::Cursor;
 use codeword::Codebook;
 
@@ -21,12 +21,8 @@ pub extern "C" fn probe_read_exp_golomb(
     ensures value { value.new ≡ value_of (outcome_at (read_code (ExpGolomb k)) payload.now at) }
     ensures next { next.new ≡ next_told (outcome_at (read_code (ExpGolomb k)) payload.now at) }
 {
-    let c = Cursor { at };
     let book = Codebook::ExpGolomb(k);
-    let a = bits::answer_of(book.read(payload, c));
-    *value = a.value;
-    *next = a.next;
-    a.result
+    given::read(book.read(payload, Cursor { at }), value, next)
 }
 
 #[unsafe(no_mangle)]
@@ -43,14 +39,10 @@ pub extern "C" fn probe_read_combo(
     ensures value { value.new ≡ value_of (outcome_at (read_code (RiceExp last_rice_q k_rice k_exp)) payload.now at) }
     ensures next { next.new ≡ next_told (outcome_at (read_code (RiceExp last_rice_q k_rice k_exp)) payload.now at) }
 {
-    let c = Cursor { at };
     let book = Codebook::RiceExp {
         last_rice_q,
         k_rice,
         k_exp,
     };
-    let a = bits::answer_of(book.read(payload, c));
-    *value = a.value;
-    *next = a.next;
-    a.result
+    given::read(book.read(payload, Cursor { at }), value, next)
 }

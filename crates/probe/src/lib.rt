@@ -5,6 +5,7 @@
 
 mod bits; // the bit layer
 mod codewords; // a codeword of any codebook
+mod given; // an answer as C has it
 mod reader; // the reader object
 mod selectors; // what a chroma format and an alpha kind are
 mod tables; // the block scans, and whether a pair of matrices is the flat one

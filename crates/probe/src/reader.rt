@@ -5,7 +5,7 @@ ghost use Rattle.bitstream.specs.Told.{outcome_at};
 ghost use Rattle.bitstream_reader.specs.Readers.{second_at};
 ghost use Rattle.probe.specs.Bits.{result_of, value_of, next_told};
 
-use crate::bits;
+use crate::given;
 
 #[unsafe(no_mangle)]
 pub extern "C" fn probe_first_fields(
@@ -26,14 +26,6 @@ pub extern "C" fn probe_first_fields(
     ensures second_next { second_next.new ≡ next_told (second_at (read_bits n) (read_bits m) payload.now 0) }
 {
     let fields = bitstream_reader::first_fields(payload, n, m);
-    let one = fields.first;
-    let two = fields.second;
-    let a = bits::answer_of(one);
-    let b = bits::answer_of(two);
-    *first = a.value;
-    *first_next = a.next;
-    *second_result = b.result;
-    *second = b.value;
-    *second_next = b.next;
-    a.result
+    *second_result = given::read(fields.second, second, second_next);
+    given::read(fields.first, first, first_next)
 }

@@ -2,73 +2,33 @@
 ghost use Rattle.std.specs.Prelude.{◌≡◌};
 ghost use Rattle.bitstream.specs.Bits.{val};
 ghost use Rattle.quant.specs.Weights.{is_default};
-ghost use Rattle.probe.specs.Tables.{unknown_entry, entry_at, entry_of, two, scan_tables};
+ghost use Rattle.probe.specs.Numbers.{told_number};
+ghost use Rattle.probe.specs.Tables.{entry_at, entry_of, scan_tables};
 
+use crate::given;
 use answers::Refusal;
 use quant::{QuantMatrices, scans};
 
-// ---- an entry of a table
-
-// An entry taken apart.
-#[derive(Clone, Copy)]
-struct Entry {
-    result: u32,
-    value: usize,
-}
-
-// A selector is unknown, or an index.
-fn unknown() -> Entry
-    ensures { result ≡ unknown_entry }
-{
-    Entry {
-        result: Refusal::Selector.number(),
-        value: 0,
-    }
-}
+// ---- an entry of a table: the C interface has numbers for the scan and for which table of it
 
 #[tactic(auto, unfolding(crate::specs::Tables::entry_at))]
-fn entry_at(table: [u8; 64], index: usize) -> Entry
-    ensures { result ≡ entry_at table index }
+fn entry_at(table: [u8; 64], index: usize) -> Result<usize, Refusal>
+    ensures { told_number result ≡ entry_at table index }
 {
-    if 63 < index {
-        return unknown();
-    }
-    Entry {
-        result: 0,
-        value: table[index] as usize,
-    }
-}
-
-// Of two tables, 0 is the first and 1 the second.
-#[tactic(auto, unfolding(crate::specs::Tables::entry_at))]
-fn entry_of(first: [u8; 64], second: [u8; 64], which: usize, index: usize) -> Entry
-    ensures { result ≡ entry_of (two first second) which index }
-{
-    match which {
-        0 => entry_at(first, index),
-        1 => entry_at(second, index),
-        _ => unknown(),
-    }
+    let entry = table.get(index).ok_or(Refusal::Selector)?;
+    Ok(usize::from(*entry))
 }
 
 #[tactic(auto, unfolding(crate::specs::Tables::entry_at, crate::specs::Tables::scan_tables))]
-fn scan_entry(scan: usize, inverse: usize, index: usize) -> Entry
-    ensures { result ≡ entry_of (scan_tables scan) inverse index }
+fn scan_entry(scan: usize, inverse: usize, index: usize) -> Result<usize, Refusal>
+    ensures { told_number result ≡ entry_of (scan_tables scan) inverse index }
 {
-    match scan {
-        0 => entry_of(
-            scans::block_scan(false),
-            scans::inv_scan(false),
-            inverse,
-            index,
-        ),
-        1 => entry_of(
-            scans::block_scan(true),
-            scans::inv_scan(true),
-            inverse,
-            index,
-        ),
-        _ => unknown(),
+    match (scan, inverse) {
+        (0, 0) => entry_at(scans::block_scan(false), index),
+        (0, 1) => entry_at(scans::inv_scan(false), index),
+        (1, 0) => entry_at(scans::block_scan(true), index),
+        (1, 1) => entry_at(scans::inv_scan(true), index),
+        _ => Err(Refusal::Selector),
     }
 }
 
@@ -77,9 +37,7 @@ pub extern "C" fn probe_scan(scan: usize, inverse: usize, index: usize, place: &
     ensures result { result ≡ (entry_of (scan_tables scan) inverse index).result }
     ensures place { place.new ≡ (entry_of (scan_tables scan) inverse index).value }
 {
-    let e = scan_entry(scan, inverse, index);
-    *place = e.value;
-    e.result
+    given::number(scan_entry(scan, inverse, index), place)
 }
 
 // ---- a pair of matrices
@@ -89,8 +47,9 @@ pub extern "C" fn probe_scan(scan: usize, inverse: usize, index: usize, place: &
 pub extern "C" fn probe_is_default(luma: &[u8; 64], chroma: &[u8; 64]) -> u32
     ensures { result ≡ val (is_default (record { luma = luma.now; chroma = chroma.now })) }
 {
-    let l = *luma;
-    let c = *chroma;
-    let m = QuantMatrices { luma: l, chroma: c };
-    m.is_default() as u32
+    let matrices = QuantMatrices {
+        luma: *luma,
+        chroma: *chroma,
+    };
+    u32::from(matrices.is_default())
 }

@@ -1,20 +1,20 @@
--- Laws of blends, and of the scale of an index: a law for each case; a blended weight is in range without being held to it.
+-- Laws of blends: a blended weight is in range without being held to it; a table that is mapped entry by entry.
 -- Assumes nothing.
-use mathlib.Core.Path.{◌≡◌, refl, sym, ap, ap₂, ◌∙◌}
-use mathlib.Core.Bool.{Bool, true, false, ◌&&◌}
-use mathlib.Core.List.{List, ◌∷◌, ◌++◌, append-nil}
-use Prim.Native.Nat.{ℕ, ◌+◌, ◌-◌, ◌*◌, ◌≤◌, ◌<◌}
+use mathlib.Core.Path.{◌≡◌, refl, sym, ap, ◌∙◌, subst}
+use mathlib.Core.Bool.{true}
+use mathlib.Core.List.{List, map}
+use mathlib.Core.Logic.{inl, inr}
+use Prim.Native.Nat.{ℕ, zero, suc, ◌+◌, ◌≤◌, ◌<◌}
 use native.Mathlib.Nat.{mul-le-mul_left}
-use native.Mathlib.Numerals.{add-one}
 use native.Mathlib.Omega.{arith}
-use lib.Dec.{leb}
-use lib.ListN.{length, get_or, take, drop, set, drop_of_length-le}
-use lib.Seq.{take_all, take-suc-set, append_snoc}
-use borrow.Author.Tests.{le-leb, lt-leb, leb-true}
-use Rattle.common.proofs.Choices.{cond_no}
+use denote.Param.Members.{Mut, Called}
+use lib.ListN.{length, get_or}
+use Rattle.std.specs.Array.{MapsFrom, IsMapOf}
+use Rattle.std.proofs.lemmas.Bool.{cases_eq}
+use Rattle.std.proofs.lemmas.List.{ext_get_or, length-map, get_or-map}
 use Rattle.quant.specs.Tables.{perceptual_luma, perceptual_chroma}
-use Rattle.quant.specs.Weights.{valid_table, blended, blend_weight, blend_table, blend_pair, blends, no_blend, answered, flat_pair, blend_of, qscale_of}
-use Rattle.quant.proofs.WeightLaws.{valid-each, drop_more}
+use Rattle.quant.specs.Weights.{valid_table, blended, blend_weight}
+use Rattle.quant.proofs.WeightLaws.{valid-each}
 
 -- ---- a weight
 
@@ -32,50 +32,18 @@ perceptual-held p k h i = (at perceptual_luma refl refl, at perceptual_chroma re
     at : (t : List ℕ) → valid_table t ≡ true → length t ≡ 64 → blend_weight p (get_or t k 0) ≡ blended p (get_or t k 0)
     at t v l = let e = valid-each t v k (omega arith) in blend-held p (get_or t k 0) h e.0 e.1
 
--- ---- a table, filled from the front: the first i entries of out, and what is still to blend, are the blended table
+-- ---- a table, by a closure that each call leaves as it was
 
-module _ (p : ℕ) (t out : List ℕ) (i : ℕ) (held : take i out ++ blend_table p (drop i t) ≡ blend_table p t) where
-  pub blend-more : {v : ℕ} → i < length t → i < length out → v ≡ blend_weight p (get_or t i 0) → take (i + 1) (set out i v) ++ blend_table p (drop (i + 1) t) ≡ blend_table p t
-  unfolding blend_table
-  blend-more {v} h k e =
-      let rest : List ℕ = blend_table p (drop (i + 1) t) in
-      ap (λ (n : ℕ). take n (set out i v) ++ rest) (add-one i)
-      ∙ ap (λ (l : List ℕ). l ++ rest) (take-suc-set out i v k)
-      ∙ append_snoc (take i out) v rest
-      ∙ ap (λ (x : ℕ). take i out ++ x ∷ rest) e
-      ∙ ap (λ (l : List ℕ). take i out ++ blend_table p l) (sym (drop_more t i h))
-      ∙ held
+module _ {F : Type 0} (g : Mut F (ℕ × Unit {0}) ℕ) (h : ℕ → ℕ) (f : F) (gives : (x y : ℕ) (q : F) → Called g f (x, tt) y q → (q ≡ f) × (y ≡ h x)) where
+  mapped_from : (xs ys : List ℕ) (i n : ℕ) → MapsFrom g f xs ys i n → (k : ℕ) → i ≤ k → k < i + n → get_or ys k 0 ≡ h (get_or xs k 0)
+  mapped_from xs ys i zero m k a b = absurd (omega arith)
+  mapped_from xs ys i (suc n) (q, x, y, stood, stands, call, rest) k a b =
+      elim (cases_eq k i) [
+        | inl e ↦ rw e (stands.1 0 ∙ (gives x y q call).1 ∙ ap h (sym (stood.1 0)))
+        | inr e ↦ mapped_from xs ys (i + 1) n (subst (λ (p : F). MapsFrom g p xs ys (i + 1) n) (gives x y q call).0 rest) k (omega arith) (omega arith)
+      ]
 
-  pub blend-all : length t ≤ i → length out ≤ i → out ≡ blend_table p t
-  unfolding blend_table
-  blend-all h k =
-      sym (append-nil out)
-      ∙ ap₂ (λ (l r : List ℕ). l ++ blend_table p r) (sym (take_all i out k)) (sym (drop_of_length-le t h))
-      ∙ held
-
--- ---- the pair of a number
-
-module _ {p : ℕ} where
-  pub blend-in : 1 ≤ p → p ≤ 8 → blend_of p ≡ answered blends (blend_pair p)
-  unfolding blend_of
-  blend-in l h = simp (le-leb 1 p l, le-leb p 8 h)
-
-  pub blend-out : (1 ≤ p → p ≤ 8 → ⊥) → blend_of p ≡ answered (no_blend 13) flat_pair
-  unfolding blend_of
-  blend-out n = cond_no _ _ (outside (leb 1 p) (leb p 8) refl refl)
-    where
-      outside : (a b : Bool) → leb 1 p ≡ a → leb p 8 ≡ b → (a && b) ≡ false
-      outside true true e f = absurd (n (leb-true 1 p e) (leb-true p 8 f))
-      outside true false e f = refl
-      outside false b e f = refl
-
--- ---- the scale of an index
-
-module _ {i : ℕ} where
-  pub qscale-linear : i ≤ 128 → qscale_of i ≡ i
-  unfolding qscale_of
-  qscale-linear h = simp (le-leb i 128 h)
-
-  pub qscale-steep : 128 < i → qscale_of i ≡ 128 + 4 * (i - 128)
-  unfolding qscale_of
-  qscale-steep h = simp (lt-leb i 128 h)
+  pub mapped : (xs ys : List ℕ) (n : ℕ) → IsMapOf g f xs ys n → length xs ≡ n → ys ≡ map h xs
+  mapped xs ys n m l =
+      ext_get_or 0 ys (map h xs) (m.long ∙ sym l ∙ sym (length-map xs h))
+      (λ k b. mapped_from xs ys 0 n m.each k (omega arith) (omega arith) ∙ sym (get_or-map h xs k 0 0 (omega arith)))

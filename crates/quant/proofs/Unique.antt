@@ -3,28 +3,21 @@
 use mathlib.Core.Path.{◌≡◌, refl, sym, ap, ◌∙◌}
 use Prim.Native.Nat.{ℕ}
 use Rattle.answers.proofs.Unique.{refusal_of, refusal_of-number}
-use Rattle.quant.specs.Weights.{BlendAnswer, blends, no_blend, told_blend, Blending, answered, blend_of}
-use Rattle.quant.specs.declared.Choice.{Choice}
-use Rattle.quant.specs.declared.Choice.TheVariants.{Blended, Refused}
-use Rattle.quant.specs.declared.Blend.{Blend}
+use Rattle.std.specs.Prelude.{Result, Ok, Err}
+use Rattle.answers.specs.declared.Refusal.{Refusal}
+use Rattle.quant.specs.Weights.{BlendAnswer, blends, no_blend, Blending, told_blend, blend_of}
+use Rattle.quant.specs.declared.QuantMatrices.{QuantMatrices}
 
 -- ---- what an answer says tells the answer
 
-choice_of : BlendAnswer → Choice
-choice_of blends = Blended
-choice_of (no_blend k) = Refused (refusal_of k)
+blend_from : BlendAnswer → QuantMatrices → Result QuantMatrices Refusal
+blend_from blends m = Ok m
+blend_from (no_blend k) m = Err (refusal_of k)
 
-choice_of-told : (c : Choice) → choice_of (told_blend c) ≡ c
-unfolding choice_of
-choice_of-told Blended = refl
-choice_of-told (Refused why) = ap Refused (refusal_of-number why)
-
-blend_from : Blending → Blend
-blend_from b = record { choice = choice_of b.answer; pair = b.pair }
-
-blend_from-told : (r : Blend) → blend_from (answered (told_blend r.choice) r.pair) ≡ r
+blend_from-told : (r : Result QuantMatrices Refusal) → blend_from (told_blend r).answer (told_blend r).pair ≡ r
 unfolding blend_from
-blend_from-told r = ap {B = Blend} (λ (c : Choice). record { choice = c; pair = r.pair }) (choice_of-told r.choice)
+blend_from-told (Ok m) = refl
+blend_from-told (Err why) = ap Err (refusal_of-number why)
 
-pub blend-unique : (n : ℕ) (r r' : Blend) → answered (told_blend r.choice) r.pair ≡ blend_of n → answered (told_blend r'.choice) r'.pair ≡ blend_of n → r ≡ r'
-blend-unique n r r' e f = sym (blend_from-told r) ∙ ap blend_from (e ∙ sym f) ∙ blend_from-told r'
+pub blend-unique : (n : ℕ) (r r' : Result QuantMatrices Refusal) → told_blend r ≡ blend_of n → told_blend r' ≡ blend_of n → r ≡ r'
+blend-unique n r r' e f = sym (blend_from-told r) ∙ ap (λ (b : Blending). blend_from b.answer b.pair) (e ∙ sym f) ∙ blend_from-told r'

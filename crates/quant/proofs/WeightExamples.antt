@@ -3,7 +3,7 @@
 use mathlib.Core.Path.{◌≡◌, refl}
 use mathlib.Core.Bool.{Bool, true, false}
 use mathlib.Core.List.{List, [], ◌∷◌, map}
-use Rattle.quant.specs.Weights.{valid_table, same, weights_valid, loads_luma, loads_chroma, is_default, flat_pair, perceptual_pair, proxy_pair, lt_pair, standard_pair, hq_pair, blended, blend_weight, blend_table, blend_pair, qscale_of}
+use Rattle.quant.specs.Weights.{valid_table, weights_valid, loads_luma, loads_chroma, is_default, flat_pair, perceptual_pair, proxy_pair, lt_pair, standard_pair, hq_pair, blended, blend_weight, blend_table, blend_pair, qscale_of}
 use Rattle.quant.specs.declared.QuantMatrices.{QuantMatrices}
 
 -- of a pair: whether it is valid, whether luma and chroma are loaded, whether it is the default
@@ -19,7 +19,7 @@ pairs : map flags (flat_pair ∷ perceptual_pair ∷ proxy_pair ∷ lt_pair ∷ 
     ∷ (true ∷ true ∷ false ∷ false ∷ [])
     ∷ (true ∷ true ∷ false ∷ false ∷ [])
     ∷ []
-unfolding flags weights_valid valid_table loads_luma loads_chroma is_default same
+unfolding flags weights_valid valid_table loads_luma loads_chroma is_default
 pairs = refl
 
 -- document 01's own: p = 4, W = 2

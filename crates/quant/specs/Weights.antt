@@ -1,24 +1,16 @@
 -- Weight matrices: document 01, "Matrices"; RDD 36, 7.3. A pair is one record of two tables of 64 weights, luma and chroma.
-use Rattle.std.specs.Prelude.{ℕ, ◌+◌, ◌-◌, ◌*◌, ◌/◌, min, max, Bool, true, false, not, cond, ◌&&◌, List, [], ◌∷◌, map, leb, eqb}
+use Rattle.std.specs.Prelude.{ℕ, ◌+◌, ◌-◌, ◌*◌, ◌/◌, min, max, Bool, not, cond, ◌&&◌, List, map, leb, bytes_eq, Result, Ok, Err}
+use Rattle.std.specs.List.{list_all}
 use Rattle.answers.specs.Refusals.{number_of}
+use Rattle.answers.specs.declared.Refusal.{Refusal}
 use Rattle.quant.specs.Tables.{fours, perceptual_luma, perceptual_chroma, proxy_luma, proxy_chroma, lt_weights, standard_weights, hq_weights}
 use Rattle.quant.specs.declared.QuantMatrices.{QuantMatrices}
-use Rattle.quant.specs.declared.Choice.{Choice}
-use Rattle.quant.specs.declared.Choice.TheVariants.{Blended, Refused}
 
 -- ---- tables
 
 -- every weight is 2..63
 unfoldable pub valid_table : List ℕ → Bool
-valid_table [] = true
-valid_table (w ∷ ws) = leb 2 w && leb w 63 && valid_table ws
-
--- two lists are equal
-unfoldable pub same : List ℕ → List ℕ → Bool
-same [] [] = true
-same [] (y ∷ ys) = false
-same (x ∷ xs) [] = false
-same (x ∷ xs) (y ∷ ys) = eqb x y && same xs ys
+valid_table = list_all (λ w. leb 2 w && leb w 63)
 
 -- ---- pairs
 
@@ -27,13 +19,13 @@ weights_valid m = valid_table m.luma && valid_table m.chroma
 
 -- whether a header carries a table for luma, and one for chroma: where it carries none, luma is all fours and chroma is luma's
 unfoldable pub loads_luma : QuantMatrices → Bool
-loads_luma m = not (same m.luma fours)
+loads_luma m = not (bytes_eq m.luma fours)
 
 unfoldable pub loads_chroma : QuantMatrices → Bool
-loads_chroma m = not (same m.chroma m.luma)
+loads_chroma m = not (bytes_eq m.chroma m.luma)
 
 unfoldable pub is_default : QuantMatrices → Bool
-is_default m = same m.luma fours && same m.chroma fours
+is_default m = bytes_eq m.luma fours && bytes_eq m.chroma fours
 
 abbrev pub flat_pair : QuantMatrices
 flat_pair = record { luma = fours; chroma = fours }
@@ -74,10 +66,6 @@ pub data BlendAnswer : Type 0 where
   blends : BlendAnswer
   no_blend : ℕ → BlendAnswer
 
-abbrev pub told_blend : Choice → BlendAnswer
-told_blend Blended = blends
-told_blend (Refused why) = no_blend (number_of why)
-
 -- an answer, and the pair that comes with it
 pub record Blending : Type 0 where
   pub answer : BlendAnswer
@@ -85,6 +73,11 @@ pub record Blending : Type 0 where
 
 abbrev pub answered : BlendAnswer → QuantMatrices → Blending
 answered a m = record { answer = a; pair = m }
+
+-- what an answer says; a refusal brings no pair, and the flat one stands for it
+abbrev pub told_blend : Result QuantMatrices Refusal → Blending
+told_blend (Ok m) = answered blends m
+told_blend (Err why) = answered (no_blend (number_of why)) flat_pair
 
 -- any number but 1 to 8 is an unknown selector, and the pair is then the flat one
 unfoldable pub blend_of : ℕ → Blending

@@ -2,7 +2,7 @@
 #![tactic(auto)]
 
 ghost use Rattle.std.specs.Prelude.{◌≡◌};
-ghost use Rattle.quant.specs.Weights.{weights_valid, loads_luma, loads_chroma, is_default, flat_pair, perceptual_pair, proxy_pair, lt_pair, standard_pair, hq_pair, told_blend, answered, blend_of, qscale_of};
+ghost use Rattle.quant.specs.Weights.{weights_valid, loads_luma, loads_chroma, is_default, flat_pair, perceptual_pair, proxy_pair, lt_pair, standard_pair, hq_pair, told_blend, blend_of, qscale_of};
 
 use answers::Refusal;
 
@@ -11,24 +11,10 @@ pub mod tables; // the weight tables
 mod weights; // a weight, a table of them
 
 // A pair of weight tables, each a row of the block after the other. Valid weights are 2..63.
-#[derive(Clone, Copy)]
+#[derive(Clone, Copy, Debug, PartialEq, Eq)]
 pub struct QuantMatrices {
     pub luma: [u8; 64],
     pub chroma: [u8; 64],
-}
-
-// How a blend is answered.
-#[derive(Clone, Copy)]
-pub enum Choice {
-    Blended,
-    Refused(Refusal),
-}
-
-// An enum holds no array, so the pair stands beside the answer; where the number is refused, it is the flat one.
-#[derive(Clone, Copy)]
-pub struct Blend {
-    pub choice: Choice,
-    pub pair: QuantMatrices,
 }
 
 impl QuantMatrices {
@@ -88,74 +74,59 @@ impl QuantMatrices {
         }
     }
 
+    #[tactic(auto, unfolding(crate::specs::Weights::weights_valid))]
     pub fn weights_valid(self) -> bool
         ensures { result ≡ weights_valid self }
     {
-        let luma = self.luma;
-        let chroma = self.chroma;
-        if weights::table_valid(luma) {
-            return weights::table_valid(chroma);
-        }
-        false
+        weights::table_valid(self.luma) && weights::table_valid(self.chroma)
     }
 
     // Whether a header has to carry luma's table.
+    #[tactic(auto, unfolding(crate::specs::Weights::loads_luma))]
     pub fn load_luma(self) -> bool
         ensures { result ≡ loads_luma self }
     {
-        let luma = self.luma;
-        !weights::table_same(luma, tables::DEFAULT_QMAT)
+        self.luma != tables::DEFAULT_QMAT
     }
 
     // Whether it has to carry chroma's: a chroma table that is not carried is luma's.
+    #[tactic(auto, unfolding(crate::specs::Weights::loads_chroma))]
     pub fn load_chroma(self) -> bool
         ensures { result ≡ loads_chroma self }
     {
-        let luma = self.luma;
-        let chroma = self.chroma;
-        !weights::table_same(chroma, luma)
+        self.chroma != self.luma
     }
 
+    #[tactic(auto, unfolding(crate::specs::Weights::is_default))]
     pub fn is_default(self) -> bool
         ensures { result ≡ is_default self }
     {
-        let luma = self.luma;
-        let chroma = self.chroma;
-        if weights::table_same(luma, tables::DEFAULT_QMAT) {
-            return weights::table_same(chroma, tables::DEFAULT_QMAT);
-        }
-        false
+        self == Self::flat()
     }
 
     // The perceptual pair, blended with fours: number 8 is the perceptual pair itself, 1 is close to flat.
-    pub fn blend(number: usize) -> Blend
-        ensures { answered (told_blend result.choice) result.pair ≡ blend_of number }
+    #[tactic(auto, unfolding(crate::specs::Weights::blend_of))]
+    pub fn blend(number: usize) -> Result<Self, Refusal>
+        ensures { told_blend result ≡ blend_of number }
     {
         match number {
             1..=8 => {
                 let p = number as u32;
-                let luma = weights::blend_table(p, tables::PERCEPTUAL_LUMA_QMAT);
-                let chroma = weights::blend_table(p, tables::PERCEPTUAL_CHROMA_QMAT);
-                Blend {
-                    choice: Choice::Blended,
-                    pair: QuantMatrices { luma, chroma },
-                }
+                Ok(Self {
+                    luma: weights::blend_table(p, tables::PERCEPTUAL_LUMA_QMAT),
+                    chroma: weights::blend_table(p, tables::PERCEPTUAL_CHROMA_QMAT),
+                })
             }
-            _ => Blend {
-                choice: Choice::Refused(Refusal::Selector),
-                pair: QuantMatrices::flat(),
-            },
+            _ => Err(Refusal::Selector),
         }
     }
 }
 
 // The scale factor of an index; RDD 36 uses 1..=224.
+#[tactic(auto, unfolding(crate::specs::Weights::qscale_of))]
 pub fn qscale(quantization_index: u8) -> u32
     ensures { result ≡ qscale_of quantization_index }
 {
-    let i = quantization_index as u32;
-    if i <= 128 {
-        return i;
-    }
-    128 + 4 * (i - 128)
+    let i = u32::from(quantization_index);
+    if i <= 128 { i } else { 128 + 4 * (i - 128) }
 }

@@ -35,9 +35,10 @@ pub fn block_scan(interlaced: bool) -> [u8; 64]
     ensures { result ≡ scan_of interlaced }
 {
     if interlaced {
-        return BLOCK_SCAN_INTERLACED;
+        BLOCK_SCAN_INTERLACED
+    } else {
+        BLOCK_SCAN_PROGRESSIVE
     }
-    BLOCK_SCAN_PROGRESSIVE
 }
 
 // The natural place of each scanned index.
@@ -45,7 +46,8 @@ pub fn inv_scan(interlaced: bool) -> [u8; 64]
     ensures { result ≡ inv_of interlaced }
 {
     if interlaced {
-        return INTERLACED_INV_SCAN;
+        INTERLACED_INV_SCAN
+    } else {
+        PROGRESSIVE_INV_SCAN
     }
-    PROGRESSIVE_INV_SCAN
 }

@@ -7,7 +7,7 @@ use native.Mathlib.Omega.{arith}
 use mathlib.Core.Path.{◌≡◌, refl, sym, ap, ap₂, ◌∙◌, subst}
 use mathlib.Core.Bool.{Bool, true, ◌&&◌}
 use mathlib.Core.List.{List, [], ◌∷◌, ◌++◌}
-use borrow.Author.Tests.{le-leb}
+use borrow.Author.Tests.{le-leb, lt-leb}
 use lib.IntN.{ℤ, pos, nat_abs}
 use lib.ListN.{length, drop, get_or}
 use lib.Pow.{pow_pos}
@@ -29,7 +29,7 @@ use Rattle.slice_shape.specs.Encoding.{scans_of, laid, sizes_of, needed_for, wri
 use Rattle.slice_shape.specs.Decoding.{read_all, SliceDecoding, slice_decoding, joined_answer, joined_slice, slice_reading_of, decode_slice_of}
 use Rattle.slice_shape.proofs.ShapeLaws.{few-of, few-slice}
 use Rattle.slice_shape.proofs.ArgumentLaws.{limits-fit, arguments-taken, encode_slice_of-fit, decode_slice_of-fit}
-use Rattle.slice_writing.proofs.WrittenLaws.{writing-in, written-room}
+use Rattle.slice_writing.proofs.WrittenLaws.{writing-in}
 use Rattle.slice.proofs.PartLaws.{codes_in, lengths_of, packs, parts_of, none, followed, followed-none, Payloads, no_payloads, none-fit, parts-laid}
 
 -- the blocks of m macroblocks, each coefficient below 2^w
@@ -70,6 +70,11 @@ written-fits : (codes : Components (List Bool)) (old : List ℕ) → needed_for 
     → written_slice codes old ≡ encoding (wrote (sizes_of codes)) (laid codes ++ drop (needed_for (sizes_of codes)) old)
 unfolding written_slice
 written-fits codes old h = simp (le-leb (needed_for (sizes_of codes)) (length old) h)
+
+written-lacks : (codes : Components (List Bool)) (old : List ℕ) → length old < needed_for (sizes_of codes)
+    → written_slice codes old ≡ encoding (needs (needed_for (sizes_of codes))) old
+unfolding written_slice
+written-lacks codes old h = simp (lt-leb (needed_for (sizes_of codes)) (length old) h)
 
 module _ (m f s w : ℕ) (blocks : List ℤ) (g : Given m f s w blocks) where
   abbrev c : ℕ
@@ -140,7 +145,7 @@ module _ (m f s w : ℕ) (blocks : List ℤ) (g : Given m f s w blocks) where
 
   -- without it, the bytes that are needed are reported, and the buffer is untouched
   pub room-none : (old : List ℕ) → length old < needed_for (sizes_of codes) → encode_slice_of blocks m f s old ≡ encoding (needs (needed_for (sizes_of codes))) old
-  room-none old h = written old ∙ sym (written-room codes old refl refl refl h)
+  room-none old h = written old ∙ written-lacks codes old h
 
   -- with it, each code's bytes and bits are reported; the buffer begins with the codes, one after another, and beyond them it is as it was
   pub room-enough : (old : List ℕ) → needed_for (sizes_of codes) ≤ length old

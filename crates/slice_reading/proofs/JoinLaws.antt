@@ -1,71 +1,67 @@
 -- Laws of joined readings, and of lists of zeros.
 -- Assumes nothing.
-use Prim.Native.Nat.{ℕ, zero, suc, ◌*◌, ◌≤◌}
-use native.Mathlib.Nat.{not-suc-le-zero, le_of_suc-le-suc}
+use Prim.Native.Nat.{ℕ, ◌*◌, ◌≤◌}
 use native.Mathlib.Omega.{arith}
-use mathlib.Core.Path.{◌≡◌, refl, ap, ap₂, ◌∙◌}
-use mathlib.Core.Bool.{Bool, cond}
-use mathlib.Core.List.{List, ◌∷◌}
-use lib.IntN.{ℤ, pos}
-use lib.ListN.{take}
-use Rattle.answers.specs.Refusals.{number_of}
-use Rattle.answers.specs.Answers.{read, refuse, Decoding, decoding}
-use Rattle.answers.specs.Told.{reached_says}
-use Rattle.answers.specs.declared.Reached.{Reached}
-use Rattle.answers.specs.declared.Reached.TheVariants.{At, No}
+use mathlib.Core.Path.{◌≡◌, refl}
+use mathlib.Core.List.{List}
+use lib.IntN.{ℤ}
+use Rattle.std.specs.Prelude.{Result, Ok, Err}
+use Rattle.std.specs.Result.{MatchResult, IsErrAnd}
+use Rattle.std.proofs.lemmas.Result.{err_from_is_err_and}
+use Rattle.answers.specs.Answers.{read, refuse, decoding}
+use Rattle.answers.specs.Told.{told_decoded}
+use Rattle.answers.specs.declared.Refusal.{Refusal}
 use Rattle.entropy_elements.specs.Answers.{reading_of}
 use Rattle.entropy_elements.specs.Decoding.{nil}
 use Rattle.slice_scan.specs.Scan.{placed_of}
-use Rattle.slice_shape.specs.Shapes.{slice_length}
-use Rattle.slice_shape.specs.Decoding.{SliceAnswer, joined_answer, all_read, slice_decoding, joined_slice}
-use Rattle.slice_shape.specs.Told.{told_reached}
+use Rattle.slice_shape.specs.Shapes.{chroma_blocks, is_interlaced, slice_length, Components}
+use Rattle.slice_shape.specs.Decoding.{read_all, refuse_in, slice_decoding, joined_slice, slice_reading_of}
+use Rattle.slice_shape.specs.declared.SliceRefusal.{SliceRefusal}
 use Rattle.slice_reading.specs.Due.{due_behind}
 
-pub due-le : (r : Reached) (b : ℕ) → due_behind (told_reached r) b ≤ b
-due-le (At n) b = omega arith
-due-le (No k) b = omega arith
+pub due-le : (r : Result ℕ Refusal) (b : ℕ) → due_behind (told_decoded r) b ≤ b
+due-le (Ok n) b = omega arith
+due-le (Err why) b = omega arith
 
--- ---- what three readings reached is joined as the readings are: a component counts only where those before it were read, the lists only where all were
+-- ---- a refusal is handed up with its component: m is the reading r, where f names it
 
-module _ (i : Bool) (m c : ℕ) (ys cbs crs : List ℤ) (p q r : List ℕ) where
-  abbrev luma : ℕ
-  luma = 64 * (m * 4)
+abbrev pub Named : (Refusal → SliceRefusal) → Result ℕ Refusal → Result ℕ SliceRefusal → Type 0
+Named f r m = MatchResult r (λ n. m ≡ Ok n) (λ why. IsErrAnd m (λ named. named ≡ f why))
 
-  abbrev chroma : ℕ
-  chroma = 64 * (m * c)
+pub read-of : (f : Refusal → SliceRefusal) (r : Result ℕ Refusal) (m : Result ℕ SliceRefusal) (n : ℕ) → Named f r m → m ≡ Ok n → r ≡ Ok n
+read-of f (Ok k) m n h e = cc
+read-of f (Err why) m n h e = let p = err_from_is_err_and m h in cc
 
-  -- what is left in the blocks
-  abbrev left : SliceAnswer → List ℤ
-  left a = cond (all_read a) (placed_of i m c (take luma ys) (take chroma cbs) (take chroma crs)) (nil (slice_length m c))
+pub refused-of : (f : Refusal → SliceRefusal) (r : Result ℕ Refusal) (m : Result ℕ SliceRefusal) (named : SliceRefusal) (a : Result (Components ℕ) SliceRefusal)
+    → Named f r m → m ≡ Err named → IsErrAnd a (λ d. d ≡ named) → (why : Refusal) × (r ≡ Err why) × (a ≡ Err (f why))
+refused-of f (Ok k) m named a h e g = absurd cc
+refused-of f (Err why) m named a h e g =
+    let p = err_from_is_err_and m h in
+    let q = err_from_is_err_and a g in (why, refl, cc)
 
-  -- Y as it was read, and Cb and Cr as far as they are due
-  pub record Readings (y cb cr : Reached) (nb nr : ℕ) : Type 0 where
-    pub due-b : nb ≡ due_behind (told_reached y) (m * c)
-    pub due-r : nr ≡ due_behind (told_reached cb) nb
-    pub is_y : reached_says (pos 0) luma y (take luma ys) ≡ reading_of p (m * 4)
-    pub is_b : reached_says (pos 0) (64 * nb) cb (take (64 * nb) cbs) ≡ reading_of q nb
-    pub is-r : reached_says (pos 0) (64 * nr) cr (take (64 * nr) crs) ≡ reading_of r nr
+-- ---- the first refusal stands; or all were read, and the blocks of the three lists are placed
 
-  joined-reached : (y cb cr : Reached) {nb nr : ℕ} → Readings y cb cr nb nr
-      → let a = joined_answer (told_reached y) (told_reached cb) (told_reached cr) in
-      slice_decoding a (left a) ≡ joined_slice i m c (reading_of p (m * 4)) (reading_of q (m * c)) (reading_of r (m * c))
+module _ (y cb cr : List ℕ) (m f s : ℕ) where
+  abbrev c : ℕ
+  c = chroma_blocks f
+
+  pub refused-y : {k : ℕ} {l : List ℤ} → decoding (refuse k) l ≡ reading_of y (m * 4) → slice_decoding (refuse_in 1 k) (nil (slice_length m c)) ≡ slice_reading_of y cb cr m f s
   unfolding joined_slice
-  joined-reached (No k) cb cr t = ap (λ (y : Decoding ℤ). joined_slice i m c y (reading_of q (m * c)) (reading_of r (m * c))) t.is_y
-  joined-reached (At n) (No k) cr t = ap₂ (λ (y cb : Decoding ℤ). joined_slice i m c y cb (reading_of r (m * c))) t.is_y (rw t.due-b at t.is_b)
-  joined-reached (At n) (At k) (No j) t =
-      ap₂ (λ (y cb : Decoding ℤ). joined_slice i m c y cb (decoding (refuse (number_of j)) (nil chroma))) t.is_y (rw t.due-b at t.is_b)
-      ∙ ap (joined_slice i m c (reading_of p (m * 4)) (reading_of q (m * c))) (rw (t.due-r, t.due-b) at t.is-r)
-  joined-reached (At n) (At k) (At j) t =
-      ap₂ (λ (y cb : Decoding ℤ). joined_slice i m c y cb (decoding (read j) (take chroma crs))) t.is_y (rw t.due-b at t.is_b)
-      ∙ ap (joined_slice i m c (reading_of p (m * 4)) (reading_of q (m * c))) (rw (t.due-r, t.due-b) at t.is-r)
+  refused-y e = rw (← e) refl
 
-  pub joined-read : (y cb cr : Reached) {nb nr : ℕ} {a : SliceAnswer} {l : List ℤ} → Readings y cb cr nb nr
-      → a ≡ joined_answer (told_reached y) (told_reached cb) (told_reached cr) → l ≡ left a
-      → slice_decoding a l ≡ joined_slice i m c (reading_of p (m * 4)) (reading_of q (m * c)) (reading_of r (m * c))
-  joined-read y cb cr t ea el = rw (el, ea) (joined-reached y cb cr t)
+  module _ {n : ℕ} {ys : List ℤ} (read-y : decoding (read n) ys ≡ reading_of y (m * 4)) where
+    pub refused-cb : {k : ℕ} {l : List ℤ} → decoding (refuse k) l ≡ reading_of cb (m * c)
+        → slice_decoding (refuse_in 2 k) (nil (slice_length m c)) ≡ slice_reading_of y cb cr m f s
+    unfolding joined_slice
+    refused-cb e = rw (← read-y, ← e) refl
 
--- the first n of k zeros
-pub take-nil : (n k : ℕ) → n ≤ k → take n (nil k) ≡ nil n
-take-nil zero k h = refl
-take-nil (suc n) zero h = absurd (not-suc-le-zero h)
-take-nil (suc n) (suc k) h = ap (λ (l : List ℤ). pos 0 ∷ l) (take-nil n k (le_of_suc-le-suc h))
+    module _ {j : ℕ} {cbs : List ℤ} (read-cb : decoding (read j) cbs ≡ reading_of cb (m * c)) where
+      pub refused-cr : {k : ℕ} {l : List ℤ} → decoding (refuse k) l ≡ reading_of cr (m * c)
+          → slice_decoding (refuse_in 3 k) (nil (slice_length m c)) ≡ slice_reading_of y cb cr m f s
+      unfolding joined_slice
+      refused-cr e = rw (← read-y, ← read-cb, ← e) refl
+
+      pub all-placed : {k : ℕ} {crs : List ℤ} → decoding (read k) crs ≡ reading_of cr (m * c)
+          → slice_decoding (read_all (record { y = n; cb = j; cr = k })) (placed_of (is_interlaced s) m c ys cbs crs) ≡ slice_reading_of y cb cr m f s
+      unfolding joined_slice
+      all-placed e = rw (← read-y, ← read-cb, ← e) refl

@@ -1,5 +1,4 @@
 pub mod TabLaws
 pub mod LaidLaws
-pub mod IndexLaws
 pub mod ScanLaws
 pub mod RoundTrip

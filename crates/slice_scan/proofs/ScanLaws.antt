@@ -8,15 +8,15 @@ use native.Mathlib.Omega.{arith}
 use lib.IntN.{ℤ, pos}
 use lib.ListN.{length, get_or}
 use borrow.Author.Tests.{lt-ltb, le-ltb}
+use Rattle.std.proofs.lemmas.Nat.{rows, div-mul-add, mod-mul-add}
 use Rattle.quant.specs.Scans.{scan_of, inv_of}
 use Rattle.slice_scan.specs.Scan.{block_place, scanned_place, natural, scanned_of, coefficient, placed_of}
 use Rattle.slice_scan.proofs.TabLaws.{length-tab, tab-at}
-use Rattle.slice_scan.proofs.IndexLaws.{div-join, mod-join, join-below}
 
 -- ---- a component
 
 pub natural-join : (per off c : ℕ) (blocks : List ℤ) (nat m b : ℕ) → b < c → natural per off c blocks nat (m * c + b) ≡ get_or blocks (block_place per off m b nat) (pos 0)
-natural-join per off c blocks nat m b h = simp (div-join m b h, mod-join m b h)
+natural-join per off c blocks nat m b h = simp (div-mul-add m c b h, mod-mul-add m c b h)
 
 pub length-scanned : (i : Bool) (mbs per off c : ℕ) (blocks : List ℤ) → length (scanned_of i mbs per off c blocks) ≡ 64 * (mbs * c)
 unfolding scanned_of
@@ -27,9 +27,9 @@ pub scanned-at : (i : Bool) (mbs per off c : ℕ) (blocks : List ℤ) (n m b : �
     → get_or (scanned_of i mbs per off c blocks) (scanned_place mbs c n m b) (pos 0) ≡ get_or blocks (block_place per off m b (get_or (inv_of i) n 0)) (pos 0)
 unfolding scanned_of
 scanned-at i mbs per off c blocks n m b hn hm hb =
-    let r = join-below hm hb in
-    tab-at (64 * (mbs * c)) _ (scanned_place mbs c n m b) (join-below hn r)
-    ∙ simp (div-join n (m * c + b) r, mod-join n (m * c + b) r) (natural-join per off c blocks (get_or (inv_of i) n 0) m b hb)
+    let r : m * c + b < mbs * c = grind (arith, rows) in
+    tab-at (64 * (mbs * c)) _ (scanned_place mbs c n m b) (grind (arith, rows))
+    ∙ simp (div-mul-add n (mbs * c) (m * c + b) r, mod-mul-add n (mbs * c) (m * c + b) r) (natural-join per off c blocks (get_or (inv_of i) n 0) m b hb)
 
 -- ---- a macroblock: Y, Cb, Cr
 
@@ -60,7 +60,7 @@ placed_at i mbs c y cb cr off m b nat hm hp hn =
     let per = 4 + 2 * c in
     let j = m * per + (off + b) in
     let same : (m * per + off + b) * 64 + nat ≡ j * 64 + nat = omega arith in
-    let low : j < mbs * per = join-below hm hp in
+    let low : j < mbs * per = grind (arith, rows) in
     ap (λ (x : ℕ). get_or (placed_of i mbs c y cb cr) x (pos 0)) same
     ∙ tab-at (64 * (mbs * per)) _ (j * 64 + nat) (omega arith)
-    ∙ simp (div-join j nat hn, mod-join j nat hn, div-join m (off + b) hp, mod-join m (off + b) hp)
+    ∙ simp (div-mul-add j 64 nat hn, mod-mul-add j 64 nat hn, div-mul-add m per (off + b) hp, mod-mul-add m per (off + b) hp)

@@ -7,10 +7,21 @@ ghost use Rattle.slice_scan.specs.Shapes.{Shape, Lists, Indices, Laid};
 
 use quant::scans;
 
-fn wide(x: u8) -> usize
-    ensures { result ≡ x }
-{
-    x as usize
+// Where a component's blocks stand among those of a slice: of the per blocks of each of mbs macroblocks, the c from off on are its own.
+#[derive(Clone, Copy)]
+pub struct Component {
+    pub mbs: usize,
+    pub per: usize,
+    pub off: usize,
+    pub c: usize,
+}
+
+// What each of the three components has.
+#[derive(Clone, Copy, Debug, PartialEq, Eq)]
+pub struct Components<T> {
+    pub y: T,
+    pub cb: T,
+    pub cr: T,
 }
 
 // Natural coefficient nat of the c blocks from first on, to out from d on.
@@ -18,54 +29,30 @@ fn scan_macroblock(blocks: &[i32], out: &mut [i32], d: usize, first: usize, c: u
     requires { (nat < 64) × (64 * (first + c) ≤ length blocks.now) × (d + c ≤ length out.old) }
     ensures { Laid (λ b. get_or blocks.now ((first + b) * 64 + nat) (pos 0)) d c out.old out.new }
 {
-    let mut b: usize = 0;
-    while b < c {
+    for b in 0..c {
         out[d + b] = blocks[(first + b) * 64 + nat];
-        b += 1;
     }
 }
 
 // Natural coefficient nat of a component's blocks, to out from d on: one scanned index.
-fn scan_index(
-    blocks: &[i32],
-    out: &mut [i32],
-    d: usize,
-    mbs: usize,
-    per: usize,
-    off: usize,
-    c: usize,
-    nat: usize,
-)
-    requires { Shape mbs per off c (length blocks.now) (length out.old) × (nat < 64) × (d + mbs * c ≤ length out.old) }
-    ensures { Laid (natural per off c blocks.now nat) d (mbs * c) out.old out.new }
+fn scan_index(blocks: &[i32], out: &mut [i32], d: usize, at: Component, nat: usize)
+    requires { Shape at.mbs at.per at.off at.c (length blocks.now) (length out.old) × (nat < 64) × (d + at.mbs * at.c ≤ length out.old) }
+    ensures { Laid (natural at.per at.off at.c blocks.now nat) d (at.mbs * at.c) out.old out.new }
 {
-    let mut m: usize = 0;
-    while m < mbs {
-        scan_macroblock(blocks, out, d + m * c, m * per + off, c, nat);
-        m += 1;
+    for m in 0..at.mbs {
+        scan_macroblock(blocks, out, d + m * at.c, m * at.per + at.off, at.c, nat);
     }
 }
 
 // The scanned list of one component. Internal: the slice coder tests the shape.
-pub fn scan_component(
-    blocks: &[i32],
-    out: &mut [i32],
-    mbs: usize,
-    per: usize,
-    off: usize,
-    c: usize,
-    interlaced: bool,
-)
-    requires { Shape mbs per off c (length blocks.now) (length out.old) }
-    ensures { out.new ≡ scanned_of interlaced mbs per off c blocks.now }
+pub fn scan_component(blocks: &[i32], out: &mut [i32], at: Component, interlaced: bool)
+    requires { Shape at.mbs at.per at.off at.c (length blocks.now) (length out.old) }
+    ensures { out.new ≡ scanned_of interlaced at.mbs at.per at.off at.c blocks.now }
 {
     let inv = scans::inv_scan(interlaced);
-    let total = mbs * c;
-    let mut n: usize = 0;
-    while n < 64 {
-        let nat = wide(inv[n]);
-        scan_index(blocks, out, n * total, mbs, per, off, c, nat);
-        n += 1;
+    let total = at.mbs * at.c;
+    for (n, nat) in inv.iter().enumerate() {
+        scan_index(blocks, out, n * total, at, usize::from(*nat));
     }
 }
 
@@ -85,60 +72,49 @@ fn place_block(
 {
     let total = mbs * c;
     let base = m * c + b;
-    let mut nat: usize = 0;
-    while nat < 64 {
-        out[d + nat] = list[wide(scan[nat]) * total + base];
-        nat += 1;
+    for (nat, n) in scan.iter().enumerate() {
+        out[d + nat] = list[usize::from(*n) * total + base];
     }
 }
 
 // Block j of the slice, from the list of its component.
 fn place_any(
-    y: &[i32],
-    cb: &[i32],
-    cr: &[i32],
+    lists: Components<&[i32]>,
     out: &mut [i32],
     j: usize,
     mbs: usize,
     c: usize,
     scan: &[u8; 64],
 )
-    requires { Lists mbs c (length y.now) (length cb.now) (length cr.now) (length out.old) × Indices scan.now × (j < mbs * (4 + 2 * c)) }
-    ensures { Laid (placed scan.now mbs c y.now cb.now cr.now j) (j * 64) 64 out.old out.new }
+    requires { Lists mbs c (length lists.y.now) (length lists.cb.now) (length lists.cr.now) (length out.old) × Indices scan.now × (j < mbs * (4 + 2 * c)) }
+    ensures { Laid (placed scan.now mbs c lists.entry.y.now lists.entry.cb.now lists.entry.cr.now j) (j * 64) 64 out.old out.new }
 {
     let per = 4 + 2 * c;
     let d = j * 64;
     let m = j / per;
     let p = j % per;
     if p < 4 {
-        place_block(y, out, d, mbs, 4, m, p, scan);
-        return;
+        place_block(lists.y, out, d, mbs, 4, m, p, scan);
+    } else if p < 4 + c {
+        place_block(lists.cb, out, d, mbs, c, m, p - 4, scan);
+    } else {
+        place_block(lists.cr, out, d, mbs, c, m, p - (4 + c), scan);
     }
-    if p < 4 + c {
-        place_block(cb, out, d, mbs, c, m, p - 4, scan);
-        return;
-    }
-    place_block(cr, out, d, mbs, c, m, p - (4 + c), scan);
 }
 
 // The blocks of the three scanned lists. Internal: the slice coder tests the shape.
 pub fn place_components(
-    y: &[i32],
-    cb: &[i32],
-    cr: &[i32],
+    lists: Components<&[i32]>,
     out: &mut [i32],
     mbs: usize,
     c: usize,
     interlaced: bool,
 )
-    requires { Lists mbs c (length y.now) (length cb.now) (length cr.now) (length out.old) }
-    ensures { out.new ≡ placed_of interlaced mbs c y.now cb.now cr.now }
+    requires { Lists mbs c (length lists.y.now) (length lists.cb.now) (length lists.cr.now) (length out.old) }
+    ensures { out.new ≡ placed_of interlaced mbs c lists.entry.y.now lists.entry.cb.now lists.entry.cr.now }
 {
     let scan = scans::block_scan(interlaced);
-    let end = mbs * (4 + 2 * c);
-    let mut j: usize = 0;
-    while j < end {
-        place_any(y, cb, cr, out, j, mbs, c, &scan);
-        j += 1;
+    for j in 0..mbs * (4 + 2 * c) {
+        place_any(lists, out, j, mbs, c, &scan);
     }
 }

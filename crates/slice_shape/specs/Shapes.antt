@@ -1,5 +1,6 @@
 -- The shape of a slice: document 01, "What the cart keeps", "Slice scan" and refusal 13.
-use Rattle.std.specs.Prelude.{ℕ, ◌+◌, ◌*◌, ◌≤◌, Bool, cond, ◌&&◌, ◌||◌, leb, eqb}
+use Rattle.std.specs.Prelude.{ℕ, ◌+◌, ◌*◌, ◌≤◌, Bool, cond, ◌&&◌, ◌||◌, leb, eqb, List, ℤ, pos, replicate}
+pub use Rattle.slice_scan.specs.declared.Components.{Components}
 
 -- chroma format 2 is 4:2:2 and 3 is 4:4:4; scan 0 is progressive and 1 interlaced
 abbrev pub known_chroma : ℕ → Bool
@@ -43,11 +44,6 @@ in_limit m = leb 1 m && leb m macroblock_limit
 abbrev pub slice_length : ℕ → ℕ → ℕ
 slice_length m c = 64 * (m * blocks_per c)
 
-pub record Components (A : Type 0) : Type 0 where
-  pub y : A
-  pub cb : A
-  pub cr : A
-
 -- ---- how much a slice has at the most
 
 -- the blocks of a component: 4 of each macroblock. It is the shape of a slice that says so, and not what the coefficient coder takes in a call (its
@@ -61,6 +57,10 @@ component_list = 64 * component_limit
 
 abbrev pub slice_list : ℕ
 slice_list = 3 * component_list
+
+-- a list for each component, before anything is read or scanned into it
+abbrev pub zero_lists : Components (List ℤ)
+zero_lists = let zeros = replicate component_list (pos 0) in record { y = zeros; cb = zeros; cr = zeros }
 
 -- ---- what the tests of the shape leave, for the code within
 

@@ -1,12 +1,16 @@
-// What a slice is: document 01, section Slice scan; slice.rs. The definitions are in specs/; here are the answers of the slice coder, how much a slice
-// has at the most, and the test of arguments that encoding and decoding share.
+// What a slice is: document 01, section Slice scan; slice.rs. The definitions are in specs/; here are how much a slice has at the most, its refusals, and
+// the test of arguments that encoding and decoding share. A chroma format is document 01's number, of which `chroma_blocks` and `counted` speak: no enum.
 #![tactic(auto)]
 
 ghost use Rattle.std.specs.Prelude.{◌≡◌};
-ghost use Rattle.slice_shape.specs.Shapes.{chroma_blocks, chroma_blocks_of, blocks_of};
+ghost use Rattle.slice_shape.specs.Shapes.{chroma_blocks, zero_lists, chroma_blocks_of, blocks_of};
 ghost use Rattle.slice_shape.specs.Told.{told_blocks};
+ghost use Rattle.slice_shape.specs.declared.SliceRefusal.TheVariants.{Arguments};
 
 use answers::Refusal;
+use slice_scan::Components;
+use std::error::Error;
+use std::fmt;
 
 pub mod arguments; // the test of arguments
 
@@ -24,63 +28,79 @@ pub const COMPONENT_LIST: usize = 64 * COMPONENT_BLOCKS;
 
 pub const SLICE_LIST: usize = 3 * COMPONENT_LIST;
 
-// A component's code: its bytes, and its bits before the padding.
-#[derive(Clone, Copy)]
-pub struct Code {
-    pub bytes: usize,
-    pub bits: usize,
+// The blocks of Cb, and those of Cr, in a macroblock of a known chroma format.
+#[tactic(auto, unfolding(crate::specs::Shapes::chroma_blocks))]
+pub fn chroma_blocks(chroma: usize) -> usize
+    ensures { result ≡ chroma_blocks chroma }
+{
+    if chroma == 2 { 2 } else { 4 }
 }
 
-#[derive(Clone, Copy)]
-pub enum EncodedSlice {
-    Done { y: Code, cb: Code, cr: Code },
-    Room { needed: usize }, // refusal 3
-    Refused(Refusal),
+// The numbers that a slice's entry points are given, once they were tested. The blocks of Cb and Cr in a macroblock are not kept beside them: where they
+// are looked up anew, the compiler knows that they are 2 or 4, and unrolls the scan.
+#[derive(Clone, Copy, Debug, PartialEq, Eq)]
+pub struct SliceShape {
+    pub macroblocks: usize,
+    pub chroma: usize,
+    pub scan: usize,
 }
 
-// Done with the bits read of each component; the arguments are refused; or a component is, and why.
-#[derive(Clone, Copy)]
-pub enum DecodedSlice {
-    Done { y: usize, cb: usize, cr: usize },
-    Refused(Refusal),
+// A list for each component, long enough for any, all zero. They stand on the stack: no heap.
+pub fn component_lists() -> Components<[i32; COMPONENT_LIST]>
+    ensures { result ≡ zero_lists }
+{
+    Components {
+        y: [0; COMPONENT_LIST],
+        cb: [0; COMPONENT_LIST],
+        cr: [0; COMPONENT_LIST],
+    }
+}
+
+// The blocks of Cb, and those of Cr, in a macroblock; an unknown chroma format is refused (13).
+#[tactic(auto, unfolding(crate::specs::Shapes::counted))]
+pub fn chroma_blocks_per_mb(chroma: usize) -> Result<usize, Refusal>
+    ensures { told_blocks result ≡ chroma_blocks_of chroma }
+{
+    match chroma {
+        2..=3 => Ok(chroma_blocks(chroma)),
+        _ => Err(Refusal::Selector),
+    }
+}
+
+// The blocks of a macroblock.
+#[tactic(auto, unfolding(crate::specs::Shapes::counted, crate::specs::Shapes::chroma_blocks))]
+pub fn blocks_per_mb(chroma: usize) -> Result<usize, Refusal>
+    ensures { told_blocks result ≡ blocks_of chroma }
+{
+    Ok(LUMA_BLOCKS_PER_MB + 2 * chroma_blocks_per_mb(chroma)?)
+}
+
+// Why the decode of a slice is refused: its arguments are, or the payload of a component is.
+#[derive(Clone, Copy, Debug, PartialEq, Eq)]
+pub enum SliceRefusal {
+    Arguments(Refusal),
     Y(Refusal),
     Cb(Refusal),
     Cr(Refusal),
 }
 
-// The blocks of Cb, and those of Cr, in a macroblock of a known chroma format.
-pub fn chroma_blocks(chroma: usize) -> usize
-    ensures { result ≡ chroma_blocks chroma }
-{
-    if chroma == 2 {
-        return 2;
-    }
-    4
-}
+impl From<Refusal> for SliceRefusal {
+    ghost from_gives = { λ why r. r ≡ Arguments why };
 
-// A number of blocks, or an unknown chroma format (refusal 13).
-#[derive(Clone, Copy)]
-pub enum Blocks {
-    Count(usize),
-    Refused(Refusal),
-}
-
-// The blocks of Cb, and those of Cr, in a macroblock.
-pub fn chroma_blocks_per_mb(chroma: usize) -> Blocks
-    ensures { told_blocks result ≡ chroma_blocks_of chroma }
-{
-    match chroma {
-        2..=3 => Blocks::Count(chroma_blocks(chroma)),
-        _ => Blocks::Refused(Refusal::Selector),
+    fn from(why: Refusal) -> SliceRefusal {
+        SliceRefusal::Arguments(why)
     }
 }
 
-// The blocks of a macroblock.
-pub fn blocks_per_mb(chroma: usize) -> Blocks
-    ensures { told_blocks result ≡ blocks_of chroma }
-{
-    match chroma {
-        2..=3 => Blocks::Count(LUMA_BLOCKS_PER_MB + 2 * chroma_blocks(chroma)),
-        _ => Blocks::Refused(Refusal::Selector),
+impl fmt::Display for SliceRefusal {
+    fn fmt<W: fmt::Write>(&self, f: &mut fmt::Formatter<W>) -> fmt::Result {
+        match self {
+            SliceRefusal::Arguments(why) => write!(f, "{why}"),
+            SliceRefusal::Y(why) => write!(f, "Y: {why}"),
+            SliceRefusal::Cb(why) => write!(f, "Cb: {why}"),
+            SliceRefusal::Cr(why) => write!(f, "Cr: {why}"),
+        }
     }
 }
+
+impl Error for SliceRefusal {}

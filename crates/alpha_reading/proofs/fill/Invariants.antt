@@ -1,11 +1,7 @@
--- `alpha_reading::fill` meets its contract. The invariant: the first i places hold v, and the others what they held.
-use Prim.Native.Nat.{◌-◌}
-use lib.ListN.{length}
-use Rattle.common.proofs.Fills.{Filled}
+-- `alpha_reading::fill` meets its contract. The invariant: the places that the loop has passed hold v.
+use Rattle.std.proofs.Common.{◌≡◌, take}
+use Rattle.std.proofs.Math.ListN.{replicate}
 use Rattle.alpha_reading.proofs.fill.Given as goal
 
-abbrev pub invariant-loop-i : goal.invariant-loop-i
-invariant-loop-i l = Filled l.v l.initial.out l.out l.i
-
-abbrev pub decreases-loop-i : goal.decreases-loop-i
-decreases-loop-i l = length l.initial.out - l.i
+abbrev pub invariant-loop-x : goal.invariant-loop-x
+invariant-loop-x l = take l.x-index l.out ≡ replicate l.x-index l.v

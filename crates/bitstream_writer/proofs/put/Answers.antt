@@ -1,6 +1,7 @@
 -- `bitstream_writer::put` meets its contract: the bits begun and the field are one word, which goes in from the byte begun on.
 use mathlib.Core.Path.{sym, ◌∙◌}
 use native.Mathlib.Omega.{arith}
+use borrow.Author.Rules.{rules}
 use lib.Pow.{pow_pos}
 use Rattle.bitstream.proofs.PutLaws.{word_lt, put_word}
 use Rattle.bitstream_writer.proofs.put.Goals as goal
@@ -23,4 +24,4 @@ pub returns-clause-buffer : goal.returns-clause-buffer
 returns-clause-buffer c =
     let a = c.args in
     (rw (c.pow2.ensures, c.pow2-2.ensures) at c.emit.ensures)
-    ∙ sym (put_word a.n a.v c.begun-begun.ensures (omega arith) (λ j. omega (arith, c.slice_known-1.given j)))
+    ∙ sym (put_word a.n a.v c.begun-begun.ensures (omega arith) (λ j. search rules))

@@ -4,18 +4,8 @@ use native.Mathlib.Nat.{mod-lt}
 use native.Mathlib.Omega.{arith}
 use mathlib.Core.Path.{sym}
 use Rattle.alpha_elements.specs.Kinds.{mask_of}
-use Rattle.alpha_elements.proofs.KindLaws.{sizes}
 use Rattle.alpha_elements.proofs.ValueLaws.{sample-add}
 use Rattle.alpha_elements.proofs.values.escaped_sample.Goals as goal
-
-pub overflow_add-result : goal.overflow_add-result
-overflow_add-result c = omega (arith, (sizes c.args.kind).mask)
-
-pub overflow_add-result-2 : goal.overflow_add-result-2
-overflow_add-result-2 c = omega (arith, (sizes c.args.kind).mask)
-
-pub overflow_add-result-3 : goal.overflow_add-result-3
-overflow_add-result-3 c = omega (arith, (sizes c.args.kind).mask)
 
 pub returns : goal.returns
 returns c =

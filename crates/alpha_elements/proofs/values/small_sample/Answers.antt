@@ -4,21 +4,8 @@ use native.Mathlib.Nat.{mod-lt}
 use native.Mathlib.Omega.{arith}
 use mathlib.Core.Path.{sym}
 use Rattle.alpha_elements.specs.Kinds.{mask_of}
-use Rattle.alpha_elements.proofs.KindLaws.{sizes}
 use Rattle.alpha_elements.proofs.ValueLaws.{sample-up, sample-down}
 use Rattle.alpha_elements.proofs.values.small_sample.Goals as goal
-
-pub overflow_add-result : goal.overflow_add-result
-overflow_add-result c = omega (arith, (sizes c.args.kind).mask)
-
-pub overflow_add-result-then-negative : goal.overflow_add-result-then-negative
-overflow_add-result-then-negative c = omega (arith, (sizes c.args.kind).mask, (sizes c.args.kind).limit)
-
-pub overflow_sub-result : goal.overflow_sub-result
-overflow_sub-result c = omega (arith, (sizes c.args.kind).limit)
-
-pub overflow_add-result-then-negative-2 : goal.overflow_add-result-then-negative-2
-overflow_add-result-then-negative-2 c = omega (arith, (sizes c.args.kind).mask)
 
 pub returns-then-negative : goal.returns-then-negative
 returns-then-negative c =
@@ -26,14 +13,8 @@ returns-then-negative c =
     rw (c.mask-mask.ensures, c.if-negative.true)
     (sym (sample-down a.kind a.prev a.m c.requires.0 c.requires.1), omega (arith, mod-lt (a.prev + mask_of a.kind - (a.m + 1)) {m = mask_of a.kind + 1} (omega arith)))
 
-pub overflow_add-result-2 : goal.overflow_add-result-2
-overflow_add-result-2 c = omega (arith, (sizes c.args.kind).mask, (sizes c.args.kind).limit)
-
-pub overflow_add-result-3 : goal.overflow_add-result-3
-overflow_add-result-3 c = omega (arith, (sizes c.args.kind).mask)
-
-pub returns : goal.returns
-returns c =
+pub returns-else-negative : goal.returns-else-negative
+returns-else-negative c =
     let a = c.args in
     rw (c.mask-mask.ensures, c.if-negative.false)
     (sym (sample-up a.kind a.prev a.m), omega (arith, mod-lt (a.prev + a.m) {m = mask_of a.kind + 1} (omega arith)))

@@ -5,8 +5,5 @@ use Rattle.bitstream.specs.Bits.{bits_of}
 use Rattle.bitstream.proofs.BitsLaws.{length-bits}
 use Rattle.bitstream.proofs.fields.unread.Goals as goal
 
-pub returns-then-p-end : goal.returns-then-p-end
-returns-then-p-end c = let a = c.args in omega (arith, length-drop a.p (bits_of a.payload.now), length-bits a.payload.now)
-
 pub returns : goal.returns
 returns c = let a = c.args in omega (arith, length-drop a.p (bits_of a.payload.now), length-bits a.payload.now)

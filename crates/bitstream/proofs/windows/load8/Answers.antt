@@ -1,9 +1,7 @@
--- `bitstream::windows::load8` meets its contract: each call asks for what the one before gave.
-use mathlib.Core.Path.{refl}
-use native.Mathlib.Omega.{arith}
-use Rattle.bitstream.specs.Bits.{number, bits_of}
+-- `bitstream::windows::load8` meets its contract.
+use mathlib.Core.Path.{sym, ◌∙◌}
+use Rattle.bitstream.proofs.PlaceLaws.{load-eight}
 use Rattle.bitstream.proofs.windows.load8.Goals as goal
 
-pub load_more-a-requires : goal.load_more-a-requires
-unfolding number bits_of
-load_more-a-requires c = (omega arith, omega arith, refl)
+pub returns : goal.returns
+returns c = let a = c.args in c.from_be_bytes.ensures ∙ sym (load-eight a.payload.now a.i c.requires (λ k. (c.type_inv.payload k).fits))

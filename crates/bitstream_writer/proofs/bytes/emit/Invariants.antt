@@ -1,14 +1,13 @@
--- `bitstream_writer::bytes::emit` meets its contract. The loop's invariant: what is still to be written, written into the buffer as it is, gives the
--- contract's buffer. The measure is how many bits are left.
+-- `bitstream_writer::bytes::emit` meets its contract. The invariant: what is still to be written, written into the buffer as it is, gives the
+-- contract's buffer.
 use mathlib.Core.Path.{◌≡◌}
-use Prim.Native.Nat.{◌+◌, ◌*◌, ◌≤◌}
+use Prim.Native.Nat.{◌+◌, ◌*◌}
 use lib.ListN.{length}
 use Rattle.bitstream.specs.Bits.{field}
 use Rattle.bitstream.specs.Puts.{stored_from}
 use Rattle.bitstream_writer.proofs.bytes.emit.Given as goal
 
-abbrev pub invariant-loop-left : goal.invariant-loop-left
-invariant-loop-left l = (stored_from l.buf l.j (field l.left l.word) ≡ stored_from l.initial.buf l.i (field l.n l.word)) × (length l.buf ≡ length l.initial.buf) × (8 * l.j + l.left ≤ 8 * length l.buf) × (l.left ≤ l.n)
-
-abbrev pub decreases-loop-left : goal.decreases-loop-left
-decreases-loop-left l = l.left
+abbrev pub invariant-loop-j : goal.invariant-loop-j
+invariant-loop-j l =
+    (stored_from l.buf l.j (field l.left l.word) ≡ stored_from l.initial.buf l.i (field l.n l.word)) × (length l.buf ≡ length l.initial.buf)
+    × (8 * l.j + l.left ≡ 8 * l.i + l.n)

@@ -44,7 +44,7 @@ pub fn decode_scanned_alpha(
     decode_tested(payload, kind, samples)
 }
 
-// SamplesInRange in range.
+// Samples in range, of a kind.
 #[derive(Clone, Copy)]
 struct SamplesInRange<'a> {
     samples: &'a [u16],

@@ -58,8 +58,8 @@ run_length-le n = go (eqb n 1) (leb n 16)
     go false true = omega arith
     go false false = omega arith
 
-run_short : (n : ℕ) {w : Word} → Spells (run_bits n) w.len w.bits → w.len ≤ 16
-run_short n {w} r = omega (arith, word-length (word-spelt {w = w} r refl), run_length_lem n, run_length-le n)
+pub run_short : (n : ℕ) {m y : ℕ} → Spells (run_bits n) m y → m ≤ 16
+run_short n {m} {y} r = let w : Word = record { len = m; bits = y } in omega (arith, word-length (word-spelt {w = w} r refl), run_length_lem n, run_length-le n)
 
 -- the words of a difference and of a run
 module _ (k : AlphaChannelType) (p v n : ℕ) {d r : Word} (difference : Spells (alpha_element_bits k (difference_element k (pos v -ℤ previous_of p))) d.len d.bits)

@@ -144,6 +144,10 @@ abbrev pub counted : ℕ → Parsed → Parsed
 counted q (got z t) = got (q + z) t
 counted q (refused k) = refused k
 
+counted_none : (x : Parsed) → x ≡ counted 0 x
+counted_none (got z t) = let e : z ≡ 0 + z = omega arith in ap (λ (n : ℕ). got n t) e
+counted_none (refused k) = refl
+
 counted-more : (q : ℕ) (x : Parsed) → counted q (one_more x) ≡ counted (q + 1) x
 counted-more q (got z t) = let e : q + suc z ≡ q + 1 + z = omega arith in ap (λ (n : ℕ). got n t) e
 counted-more q (refused k) = refl
@@ -152,6 +156,13 @@ counted-more q (refused k) = refl
 module _ (B : List Bool) (p cap : ℕ) where
   abbrev pub Passed : ℕ → Type 0
   Passed at = zero_prefix cap (drop p B) ≡ counted (at - p) (zero_prefix (cap - (at - p)) (drop at B))
+
+  pub passed_none : Passed p
+  passed_none =
+      let z : 0 ≡ p - p = omega arith in
+      let f : cap ≡ cap - (p - p) = omega arith in
+      ap (λ (k : ℕ). zero_prefix k (drop p B)) f ∙ counted_none (zero_prefix (cap - (p - p)) (drop p B))
+      ∙ ap (λ (k : ℕ). counted k (zero_prefix (cap - (p - p)) (drop p B))) z
 
   module _ (at : ℕ) (low : p ≤ at) (E : Passed at) where
     pub passed-one : at < length B → get_or B at false ≡ true → gives (at - p) (at + 1) ≡ outcome p (drop p B) (zero_prefix cap (drop p B))

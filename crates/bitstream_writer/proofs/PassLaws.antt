@@ -21,9 +21,23 @@ pub counts_pair : (buf : List ℕ) (p : ℕ) (a b : Word) → Counts buf p (word
 counts_pair buf p a b =
     record { next = omega (arith, pair-length a b); kept = refl }
 
+-- what is to come is one of two equal lists
+pub laying-at : {Lays : List ℕ → ℕ → List Bool → List ℕ → ℕ → Type 0} {e buf : List ℕ} {p at : ℕ} {whole rest rest' : List Bool} → Laying Lays e p whole buf at rest → rest ≡ rest'
+    → Laying Lays e p whole buf at rest'
+laying-at {Lays = Lays} {e = e} {buf = buf} {p = p} {at = at} {whole = whole} l s = subst (λ (t : List Bool). Laying Lays e p whole buf at t) s l
+
 module _ {Room : ℕ → ℕ → Type 0} {Lays : List ℕ → ℕ → List Bool → List ℕ → ℕ → Type 0} (laws : PassLaws Room Lays) where
   pub laying-start : (e : List ℕ) (p : ℕ) (whole : List Bool) → Laying Lays e p whole e p whole
   laying-start e p whole = record { left = refl; on = λ x. x }
+
+  -- another code was laid before it
+  pub laying-after : {e e₁ buf : List ℕ} {p p₁ at : ℕ} {all a whole rest : List Bool} → all ≡ a ++ whole → Lays e p a e₁ p₁ → Laying Lays e₁ p₁ whole buf at rest
+      → Laying Lays e p all buf at rest
+  laying-after {e = e} {p = p} {a = a} {whole = whole} s x l =
+      record {
+        left = omega (arith, l.left, laws.next x, length-append a whole, ap length s);
+        on = λ {buf' = b} {p' = q} y. subst (λ (t : List Bool). Lays e p t b q) (sym s) (laws.behind x (l.on y));
+      }
 
   module _ {e buf : List ℕ} {p at : ℕ} {whole rest : List Bool} (l : Laying Lays e p whole buf at rest) where
     pub laying-last : rest ≡ [] → Lays e p whole buf at

@@ -7,7 +7,7 @@ use Prim.Native.Nat.{ℕ, ◌+◌, ◌*◌, ◌^◌, ◌<◌}
 use native.Mathlib.Nat.{mod-eq_of_lt}
 use lib.ListN.{length}
 use Rattle.bitstream.specs.Bits.{field, number}
-use Rattle.bitstream.specs.Bytes.{bytes_for, put_at}
+use Rattle.bitstream.specs.Bytes.{bytes_for, put_at, stored}
 use Rattle.bitstream.proofs.FieldLaws.{length-field, number-field}
 use Rattle.bitstream_writer.specs.declared.Word.{Word}
 use Rattle.bitstream_writer.specs.Words.{Spells, OneMore, Joins}
@@ -44,3 +44,8 @@ join-unique a b {w} {w'} x y = (
   x.count ∙ sym y.count,
   spelled-value _ w.len w.bits x.is x.fits ∙ sym (spelled-value _ w'.len w'.bits y.is y.fits),
 )
+
+-- codes::Coded::count, codes::Coded::write
+pub coded-unique : (bits : List Bool) (old : List ℕ) {r r' : ℕ} {b b' : List ℕ} → r ≡ length bits → r' ≡ length bits → b ≡ stored old bits → b' ≡ stored old bits
+    → (r ≡ r') × (b ≡ b')
+coded-unique bits old e f g h = (e ∙ sym f, g ∙ sym h)

@@ -79,6 +79,15 @@ module _ {bs : List Bool} {w : Word} where
   pub is_word : WordOf bs w → IsWord w
   is_word s = record { is = refl; fits = s.fits; small = s.small; short = s.short }
 
+pub word_more : {bs : List Bool} {b : Bool} {n v : ℕ} {w : Word} → Spells bs n v → OneMore n v b w.len w.bits → WordOf (bs ++ (b ∷ [])) w
+word_more {b = b} s m =
+    record {
+      is = m.is ∙ ap (λ (l : List Bool). l ++ (b ∷ [])) s.is;
+      fits = m.fits;
+      small = m.small;
+      short = omega (arith, m.count, s.short);
+    }
+
 pub puts_word : {e e' : List ℕ} {p p' : ℕ} (w : Word) → p' ≡ p + w.len → e' ≡ put_at e p (word_bits w) → Puts e p (word_bits w) e' p'
 puts_word w a b = puts-at (omega (arith, length-field w.len w.bits)) b
 

@@ -73,8 +73,7 @@ impl Pass for Writing {
 
     fn put_pair(out: &mut [u8], at: usize, front: Word, behind: Word) -> usize {
         if front.len + behind.len <= 56 {
-            let w = words::join(front, behind);
-            crate::put(out, at, w.len, w.bits)
+            Self::put(out, at, words::join(front, behind))
         } else {
             let mid = words::put_word(out, at, front);
             words::put_word(out, mid, behind)

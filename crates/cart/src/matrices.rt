@@ -83,7 +83,7 @@ pub extern "C" fn cart_blend(number: u64, luma: &mut [u8; 64], chroma: &mut [u8;
 {
     match QuantMatrices::blend(number as usize) {
         Ok(pair) => store(pair, luma, chroma),
-        Err(why) => why.number(),
+        Err(none) => none.why.number(),
     }
 }
 

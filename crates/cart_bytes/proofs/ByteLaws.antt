@@ -26,24 +26,24 @@ word_cast : (z : ℤ) → SFits w32 z → word_of z ≡ cast_unsigned w32 z
 unfolding word_of
 word_cast z h = grind arith
 
-word_lt : (z : ℤ) → SFits w32 z → word_of z < 4294967296
+pub word_lt : (z : ℤ) → SFits w32 z → word_of z < 4294967296
 unfolding word_of
 word_lt z h = grind arith
 
-int_word : (z : ℤ) → SFits w32 z → int_of (word_of z) ≡ z
+pub int_word : (z : ℤ) → SFits w32 z → int_of (word_of z) ≡ z
 unfolding word_of int_of
 int_word z h = grind (arith, nat_tests)
 
-word-int : (w : ℕ) → w < 4294967296 → word_of (int_of w) ≡ w
+pub word-int : (w : ℕ) → w < 4294967296 → word_of (int_of w) ≡ w
 unfolding word_of int_of
 word-int w h = grind (arith, nat_tests)
 
 -- ---- a pattern and its four bytes
 
-word_bytes : (w : ℕ) → w < 4294967296 → joined (w % 256) (w / 256 % 256) (w / 65536 % 256) (w / 16777216 % 256) ≡ w
+pub word_bytes : (w : ℕ) → w < 4294967296 → joined (w % 256) (w / 256 % 256) (w / 65536 % 256) (w / 16777216 % 256) ≡ w
 word_bytes w h = omega (arith, from_le_bytes-to_le_bytes_4 w h)
 
-bytes_word : (a b c d : ℕ) (bs : List ℕ) → a < 256 → b < 256 → c < 256 → d < 256
+pub bytes_word : (a b c d : ℕ) (bs : List ℕ) → a < 256 → b < 256 → c < 256 → d < 256
     → word_then (joined a b c d) bs ≡ a ∷ b ∷ c ∷ d ∷ bs
 bytes_word a b c d bs ha hb hc hd =
     let four : List ℕ = a ∷ b ∷ c ∷ d ∷ [] in

@@ -24,12 +24,27 @@ module _ (y cb cr m f s n : ℕ) where
   pub record Listed : Type 0 where
     pub all : n ≡ 4 * (n / 4)
     pub inside : n / 4 ≤ slice_list
+    pub one : slice_arguments 1 y cb cr m f s (n / 4) ≡ fit
+
+  -- the list's length alone, for the functions
+  pub record Fours : Type 0 where
+    pub all : n ≡ 4 * (n / 4)
+    pub inside : n / 4 ≤ slice_list
 
   pub listed : slice_arguments 4 y cb cr m f s n ≡ fit → Listed
-  listed e = let t = taken_of 4 y cb cr m f s n e in record { all = omega (arith, t.full); inside = omega (arith, t.full, few-slice t.few) }
+  listed e =
+      let t = taken_of 4 y cb cr m f s n e in
+      record {
+        all = omega (arith, t.full);
+        inside = omega (arith, t.full, few-slice t.few);
+        one = arguments-as 4 y cb cr m f s n 1 (n / 4) (omega (arith, t.full)) e;
+      }
 
-  one : slice_arguments 4 y cb cr m f s n ≡ fit → {k : ℕ} → k ≡ n / 4 → slice_arguments 1 y cb cr m f s k ≡ fit
-  one e {k} h = arguments-as 4 y cb cr m f s n 1 k (omega (arith, (taken_of 4 y cb cr m f s n e).full)) e
+  pub fours : slice_arguments 4 y cb cr m f s n ≡ fit → Fours
+  fours e = let l = listed e in record { all = l.all; inside = l.inside }
+
+  as_one : slice_arguments 4 y cb cr m f s n ≡ fit → {k : ℕ} → k ≡ n / 4 → slice_arguments 1 y cb cr m f s k ≡ fit
+  as_one e h = rw h (listed e).one
 
 -- the front of a longer list is lent for such a list, and comes back as l
 pub record Lent (n : ℕ) (list l : List ℤ) : Type 0 where
@@ -64,17 +79,17 @@ module _ (y cb cr : List ℕ) (m f s : ℕ) (old : List ℕ) where
   pub decode-ints : (list : List ℤ) → slice_arguments 4 (length y) (length cb) (length cr) m f s (length old) ≡ fit → length list ≡ length old / 4
       → decode_slice_bytes_of y cb cr m f s old ≡ slice_in_bytes (decode_slice_of y cb cr m f s list)
   decode-ints list e long =
-      decode-fit e ∙ ap slice_in_bytes (sym (decode_slice_of-fit y cb cr m f s list (one (length y) (length cb) (length cr) m f s (length old) e long)))
+      decode-fit e ∙ ap slice_in_bytes (sym (decode_slice_of-fit y cb cr m f s list (as_one (length y) (length cb) (length cr) m f s (length old) e long)))
 
 module _ (bytes : List ℕ) (m f s : ℕ) (old : List ℕ) where
   pub encode-ints : slice_arguments 4 0 0 0 m f s (length bytes) ≡ fit → encode_slice_bytes_of bytes m f s old ≡ encode_slice_of (ints_of bytes) m f s old
   unfolding encode_slice_bytes_of
   encode-ints e =
       let long : length (ints_of bytes) ≡ length bytes / 4 = length-ints bytes (length bytes / 4) (listed 0 0 0 m f s (length bytes) e).all in
-      rw e (sym (encode_slice_of-fit (ints_of bytes) m f s old (one 0 0 0 m f s (length bytes) e long)))
+      rw e (sym (encode_slice_of-fit (ints_of bytes) m f s old (as_one 0 0 0 m f s (length bytes) e long)))
 
 -- ---- what the functions need: of the list only the front is lent
 
-pub ruleset encodes = (listed, length-take-le, encode-ints)
+pub ruleset encodes = (fours, length-take-le, encode-ints)
 
-pub ruleset decodes = (listed, length-take-le, decode-ints)
+pub ruleset decodes = (fours, length-take-le, decode-ints)

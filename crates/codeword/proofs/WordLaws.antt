@@ -4,7 +4,7 @@ use mathlib.Core.Path.{◌≡◌, sym, ap, ◌∙◌}
 use mathlib.Core.Bool.{Bool}
 use mathlib.Core.List.{List, ◌++◌}
 use Prim.Native.Nat.{ℕ, ◌+◌, ◌-◌, ◌*◌, ◌/◌, ◌%◌, ◌^◌, ◌≤◌, ◌<◌}
-use native.Mathlib.Nat.{lt_of_lt_of_le, mod-lt, div-lt_iff_lt-mul}
+use native.Mathlib.Nat.{lt_of_lt_of_le, mod-lt, mul-le-mul, div-lt_iff_lt-mul}
 use native.Mathlib.Omega.{arith}
 use lib.Pow.{pow_pos, pow_mono}
 use Rattle.bitstream.specs.Bits.{zeros}
@@ -44,6 +44,9 @@ module _ (k n : ℕ) (order : k ≤ 5) (fits : n < 2 ^ 32) where
 module _ (q r e n : ℕ) (last : q ≤ 2) where
   abbrev limit : ℕ
   limit = (q + 1) * 2 ^ r
+
+  pub limit-le : r ≤ 2 → limit ≤ 12
+  limit-le h = mul-le-mul {n₁ = q + 1} {m₁ = 2 ^ r} {n₂ = 3} {m₂ = 2 ^ 2} (omega arith) (pow_mono h)
 
   pub rice-spells : r ≤ 2 → n < limit → Spells (combo q r e n) (n / 2 ^ r + 1 + r) (2 ^ r + n % 2 ^ r)
   rice-spells hr h =

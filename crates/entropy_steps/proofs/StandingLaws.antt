@@ -21,7 +21,7 @@ use Rattle.entropy_elements.specs.Decoding.{nil, State, first, run, after_dc, st
 use Rattle.entropy_elements.proofs.StepLaws.{step-ended, from-moved, from-stop, from-refused}
 use Rattle.entropy_steps.specs.DcSteps.{first_state, next_state, first_due, dc_due, behind_dc, dc_moves, DcsIn, DcStepped}
 use Rattle.entropy_steps.specs.RunSteps.{run_state}
-use Rattle.entropy_steps.specs.PairSteps.{PairTo}
+use Rattle.entropy_steps.specs.PairSteps.{PairTo, PairStepped}
 use Rattle.entropy_steps.specs.Standing.{CoefficientsStand, left_behind, DcsStand, AcsStand, behind_dcs}
 use Rattle.entropy_steps.specs.declared.Dcs.{Dcs}
 use Rattle.std.specs.Prelude.{Ok, Err}
@@ -142,6 +142,10 @@ module _ {B : List Bool} {blocks : ℕ} {s : Acs} {out : List ℤ} (a : AcsStand
         room = g.room;
         books = g.books;
       }
+
+  -- a refusal is the whole reading's
+  pub acs-rejects : (why : Refusal) → PairStepped B (64 * blocks) s (Err why) → Rejects (number_of why) (decode blocks B)
+  acs-rejects why g = stands-rejects step finish a.here.stands (number_of why) (g (take s.place out))
 
   pub acs-ended : ended (drop s.at B) ≡ true → decoding (read s.at) out ≡ settled (pos 0) B (64 * blocks) (decode blocks B)
   acs-ended e = stop-here a.here (step-ended (64 * blocks - s.place) s.runs s.levels (drop s.at B) e) refl

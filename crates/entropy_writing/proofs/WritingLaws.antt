@@ -20,9 +20,9 @@ use Rattle.std.specs.List.{position, prefix_len}
 use Rattle.std.specs.Prelude.{Some, None}
 use Rattle.std.proofs.lemmas.List.{get_or-take, get_or-drop, drop-drop}
 use mir.Syntax.{w32}
-use mir.Val.{to_z, of_z}
+use mir.Val.{SFits, to_z, of_z}
 use mir.Facts.{to_z-of_z}
-use Rattle.common.proofs.Integers.{sfits-nat_abs}
+use Rattle.common.proofs.Integers.{sfits-nat_abs, nat_abs-sub}
 use Rattle.bitstream_writer.specs.declared.Word.{Word}
 use Rattle.bitstream_writer.specs.Words.{WordOf, word_bits}
 use Rattle.codeword.specs.Codewords.{code}
@@ -50,7 +50,7 @@ encode-le {b} {cs} f =
     let s = small-below cs f.small in
     omega (arith, f.full, f.few, encode-length b cs (omega (arith, f.full, f.few)) s.0, size-le 29 b cs (omega arith) f.full (omega (arith, f.few)) s.1)
 
--- ---- a coefficient, as the code reads it
+-- ---- numbers of 32 bits: a coefficient, and the difference of two
 
 abbrev read : ℤ → ℤ
 read z = to_z w32 (of_z w32 z)
@@ -58,7 +58,31 @@ read z = to_z w32 (of_z w32 z)
 read_is : (z : ℤ) → nat_abs z ≤ 2 * most → read z ≡ z
 read_is z h = to_z-of_z {w = w32} (sfits-nat_abs z (omega arith))
 
+module _ (c dc : ℤ) (hc : nat_abs c ≤ most) (hd : nat_abs dc ≤ most) where
+  pub diff-le : nat_abs (c -ℤ dc) ≤ 2 * most
+  diff-le = omega (arith, nat_abs-sub c dc)
+
+  diff_is : read c -ℤ read dc ≡ c -ℤ dc
+  diff_is = ap₂ ◌-ℤ◌ (read_is c (omega arith)) (read_is dc (omega arith))
+
+  pub diff-fits : SFits w32 (read c -ℤ read dc)
+  diff-fits = rw diff_is (sfits-nat_abs (c -ℤ dc) (omega (arith, diff-le)))
+
+  pub diff-read : read (read c -ℤ read dc) ≡ c -ℤ dc
+  diff-read = ap read diff_is ∙ read_is (c -ℤ dc) diff-le
+
 -- ---- DC
+
+-- the coefficient at n, as the code reads it
+module _ {b : ℕ} {cs : List ℤ} (f : Encodable b cs) (n : ℕ) where
+  abbrev pub at : ℤ
+  at = read (get_or cs n (pos 0))
+
+  at-is : at ≡ get_or cs n (pos 0)
+  at-is = read_is (get_or cs n (pos 0)) (omega (arith, nat_abs-in_range cs n f.small))
+
+  pub at_small : nat_abs at ≤ most
+  at_small = rw at-is (nat_abs-in_range cs n f.small)
 
 -- the i-th of the m coefficients from k on, as the code reads it
 module _ {b : ℕ} {cs : List ℤ} (f : Encodable b cs) (k m i : ℕ) where
@@ -69,20 +93,11 @@ module _ {b : ℕ} {cs : List ℤ} (f : Encodable b cs) (k m i : ℕ) where
     item_within : (i < m) × (i < length (drop k cs))
     item_within = let l = rw length-take at h in (omega (arith, l), omega (arith, l))
 
-    there : get_or (take m (drop k cs)) i (pos 0) ≡ get_or (drop k cs) i (pos 0)
-    there = get_or-take m (drop k cs) i (pos 0) item_within.0
-
-    small : nat_abs (get_or (take m (drop k cs)) i (pos 0)) ≤ most
-    small = rw (there, get_or-drop k cs i (pos 0)) (nat_abs-in_range cs (k + i) f.small)
-
-    back : item ≡ get_or (take m (drop k cs)) i (pos 0)
-    back = read_is (get_or (take m (drop k cs)) i (pos 0)) (omega (arith, small))
-
-    item-is : item ≡ get_or (drop k cs) i (pos 0)
-    item-is = back ∙ there
+    item-at : item ≡ at f (k + i)
+    item-at = ap read (get_or-take m (drop k cs) i (pos 0) item_within.0 ∙ get_or-drop k cs i (pos 0))
 
     pub item_small : nat_abs item ≤ most
-    item_small = rw back small
+    item_small = rw item-at (at_small f (k + i))
 
 first_step : (b : ℕ) (cs : List ℤ) → 0 < b → 0 < length cs
     → encode b cs ≡ code first_book (symbol_of (get_or cs 0 (pos 0))) ++ dcs_code (b - 1) (first_dcs (get_or cs 0 (pos 0))) (drop 1 cs)
@@ -96,34 +111,51 @@ unfolding dcs_code dc_elements bits element_bits
 dc-step n s c cs = refl
 
 module _ {b : ℕ} {cs : List ℤ} (f : Encodable b cs) where
-  first_is : read (get_or cs 0 (pos 0)) ≡ get_or cs 0 (pos 0)
-  first_is = read_is _ (omega (arith, nat_abs-in_range cs 0 f.small))
+  pub encode-first : {t : WriterDcs} → 0 < b → t ≡ first_dcs (at f 0) → encode b cs ≡ code first_book (symbol_of (at f 0)) ++ dcs_code (b - 1) t (drop 1 cs)
+  encode-first h e = rw (e, at-is f 0) (first_step b cs h (omega (arith, f.full)))
 
-  pub first_fits : {t : WriterDcs} → t ≡ first_dcs (read (get_or cs 0 (pos 0))) → DcFits t
-  first_fits e = rw e (record { book = dc_book-in-use 3; dc = rw first_is (nat_abs-in_range cs 0 f.small) })
+  pub dcs-next : {t : WriterDcs} (n : ℕ) (s : WriterDcs) → n < b → t ≡ dc_after s (at f n)
+      → dcs_code (b - n) s (drop n cs) ≡ dc_bits s (at f n) ++ dcs_code (b - (n + 1)) t (drop (n + 1) cs)
+  dcs-next n s h e =
+      let m : b - n ≡ suc (b - (n + 1)) = omega arith in
+      let l : n < length cs = omega (arith, f.full) in
+      rw (e, at-is f n, m, add-one n, drop-cons cs n (pos 0) l) (dc-step (b - suc n) s (get_or cs n (pos 0)) (drop (suc n) cs))
 
-  pub encode-first : {t : WriterDcs} → 0 < b → t ≡ first_dcs (read (get_or cs 0 (pos 0)))
-      → encode b cs ≡ code first_book (symbol_of (read (get_or cs 0 (pos 0)))) ++ dcs_code (b - 1) t (drop 1 cs)
-  encode-first h e = rw (e, first_is) (first_step b cs h (omega (arith, f.full)))
+-- where none is due, AC follows
+pub dcs-end : (b : ℕ) (s : WriterDcs) (cs : List ℤ) (n : ℕ) → n ≡ b → dcs_code (b - n) s (drop n cs) ≡ acs_code first_acs (drop b cs)
+unfolding dcs_code dc_elements acs_code
+dcs-end b s cs n e =
+    let z : b - n ≡ 0 = omega arith in
+    ap₂ (λ (m k : ℕ). dcs_code m s (drop k cs)) z e
 
-  pub dcs-fits : {t : WriterDcs} (i : ℕ) (s : WriterDcs) → i < length (take (b - 1) (drop 1 cs)) → t ≡ dc_after s (item f 1 (b - 1) i) → DcFits t
-  dcs-fits i s h e = let c : ℤ = item f 1 (b - 1) i in rw e (record { book = dc_book-in-use (nat_abs (c -ℤ s.dc)); dc = item_small f 1 (b - 1) i h })
+pub first_fits : (c : ℤ) → nat_abs c ≤ most → DcFits (first_dcs c)
+first_fits c h = record { book = dc_book-in-use 3; dc = h }
 
-  pub dcs-next : {t : WriterDcs} (i : ℕ) (s : WriterDcs) → i < length (take (b - 1) (drop 1 cs)) → t ≡ dc_after s (item f 1 (b - 1) i)
+pub dc-fits : (s : WriterDcs) (c : ℤ) → nat_abs c ≤ most → DcFits (dc_after s c)
+dc-fits s c h = record { book = dc_book-in-use (nat_abs (c -ℤ s.dc)); dc = h }
+
+-- the same of the items behind the first, as a loop over them has it
+module _ {b : ℕ} {cs : List ℤ} (f : Encodable b cs) where
+  pub first_fits-in : {t : WriterDcs} → t ≡ first_dcs (at f 0) → DcFits t
+  first_fits-in e = rw e (first_fits (at f 0) (at_small f 0))
+
+  module _ (i : ℕ) (s : WriterDcs) where
+    -- i + 1 of all are passed where i of these are
+    behind : drop i (drop 1 cs) ≡ drop (i + 1) cs
+    behind = let n : 1 + i ≡ i + 1 = omega arith in drop-drop i 1 cs ∙ ap (λ (k : ℕ). drop k cs) n
+
+    pub dcs-fits : {t : WriterDcs} → i < length (take (b - 1) (drop 1 cs)) → t ≡ dc_after s (item f 1 (b - 1) i) → DcFits t
+    dcs-fits h e = rw e (dc-fits s (item f 1 (b - 1) i) (item_small f 1 (b - 1) i h))
+
+    pub dcs-end-in : 0 < b → length (take (b - 1) (drop 1 cs)) ≡ i → dcs_code (b - (i + 1)) s (drop i (drop 1 cs)) ≡ acs_code first_acs (drop b cs)
+    dcs-end-in h e = rw behind (dcs-end b s cs (i + 1) (omega (arith, e, length-take {A = ℤ}, length-drop {A = ℤ}, f.full)))
+
+  pub dcs-next-in : {t : WriterDcs} (i : ℕ) (s : WriterDcs) → i < length (take (b - 1) (drop 1 cs)) → t ≡ dc_after s (item f 1 (b - 1) i)
       → dcs_code (b - (i + 1)) s (drop i (drop 1 cs)) ≡ dc_bits s (item f 1 (b - 1) i) ++ dcs_code (b - (i + 1 + 1)) t (drop (i + 1) (drop 1 cs))
-  dcs-next i s h e =
-      let within = item_within f 1 (b - 1) i h in
-      let due : b - (i + 1) ≡ suc (b - (i + 1 + 1)) = omega arith in
-      rw (e, item-is f 1 (b - 1) i h, due, add-one i, drop-cons (drop 1 cs) i (pos 0) within.1)
-      (dc-step (b - (suc i + 1)) s (get_or (drop 1 cs) i (pos 0)) (drop (suc i) (drop 1 cs)))
-
-  -- where none is due, AC follows
-  pub dcs-end : (i : ℕ) (s : WriterDcs) → 0 < b → length (take (b - 1) (drop 1 cs)) ≡ i → dcs_code (b - (i + 1)) s (drop i (drop 1 cs)) ≡ acs_code first_acs (drop b cs)
-  unfolding dcs_code dc_elements acs_code
-  dcs-end i s h e =
-      let n : 1 + i ≡ b = omega (arith, e, length-take {A = ℤ}, length-drop {A = ℤ}, f.full) in
-      let none : b - (i + 1) ≡ 0 = omega arith in
-      rw none (ap (acs_code first_acs) (drop-drop i 1 cs ∙ ap (λ (k : ℕ). drop k cs) n))
+  dcs-next-in i s h e =
+      let n : 1 + i ≡ i + 1 = omega arith in
+      let c : item f 1 (b - 1) i ≡ at f (i + 1) = item-at f 1 (b - 1) i h ∙ ap (λ (k : ℕ). at f k) n in
+      rw (behind i s, behind (i + 1) s, c) (dcs-next f (i + 1) s (omega (arith, (item_within f 1 (b - 1) i h).0)) (e ∙ ap (dc_after s) c))
 
 -- ---- AC
 
@@ -171,6 +203,9 @@ none_left : (k n : ℕ) (b : Bool) → ltb k n ≡ b → cond b (Some k) None �
 none_left k n true e is = cc
 none_left k n false e is = ltb-false k n e
 
+pub ac-fits : (run : ℕ) (c : ℤ) → AcFits (acs_after run c)
+ac-fits run c = record { runs = run_book-in-use run; levels = level_book-in-use (nat_abs c - 1) }
+
 -- n zeros, and the level behind them as the code reads it
 module _ (cs : List ℤ) (n : ℕ) (small : (i : ℕ) → nat_abs (get_or cs i (pos 0)) ≤ most) (is : position is_level cs ≡ Some n) where
   abbrev level : ℤ
@@ -186,7 +221,7 @@ module _ (cs : List ℤ) (n : ℕ) (small : (i : ℕ) → nat_abs (get_or cs i (
   level_there = rw level-is (level_some level found.1)
 
   pub acs-fits : {t : WriterAcs} → t ≡ acs_after n (read level) → AcFits t
-  acs-fits e = rw e (record { runs = run_book-in-use n; levels = level_book-in-use (nat_abs (read level) - 1) })
+  acs-fits e = rw e (ac-fits n (read level))
 
   pub acs-next : {t : WriterAcs} (s : WriterAcs) → t ≡ acs_after n (read level) → acs_code s cs ≡ ac_bits s n (read level) ++ acs_code t (drop (n + 1) cs)
   unfolding acs_code

@@ -179,32 +179,16 @@ impl<'a> Coefficients<'a> {
     }
 }
 
-impl<'a> Coded for Coefficients<'a> {
-    ghost code = { λ s. encode s.blocks s.list.now };
-
-    fn most_bytes(&self) -> usize {
-        arguments::BLOCK_BYTES * self.blocks
-    }
-
-    fn count(&self) -> usize {
-        self.code::<Counting>(&mut [])
-    }
-
-    fn write(&self, out: &mut [u8]) -> usize {
-        self.code::<Writing>(out)
-    }
-}
-
 // The bits of the code.
 pub fn count(coeffs: &[i32], blocks: usize) -> usize
     requires { Encodable blocks coeffs.now }
     ensures { (result ≡ length (encode blocks coeffs.now)) × (result ≤ code_limit) }
 {
-    Coefficients {
+    let coefficients = Coefficients {
         list: coeffs,
         blocks,
-    }
-    .count()
+    };
+    coefficients.code::<Counting>(&mut [])
 }
 
 // Writes the code at the start of out, which has room for it.
@@ -213,9 +197,25 @@ pub fn write(coeffs: &[i32], blocks: usize, out: &mut [u8]) -> usize
     ensures count { result ≡ length (encode blocks coeffs.now) }
     ensures buffer { out.new ≡ stored out.old (encode blocks coeffs.now) }
 {
-    Coefficients {
+    let coefficients = Coefficients {
         list: coeffs,
         blocks,
+    };
+    coefficients.code::<Writing>(out)
+}
+
+impl<'a> Coded for Coefficients<'a> {
+    ghost code = { λ s. encode s.blocks s.list.now };
+
+    fn most_bytes(&self) -> usize {
+        arguments::BLOCK_BYTES * self.blocks
     }
-    .write(out)
+
+    fn count(&self) -> usize {
+        count(self.list, self.blocks)
+    }
+
+    fn write(&self, out: &mut [u8]) -> usize {
+        write(self.list, self.blocks, out)
+    }
 }

@@ -2,8 +2,8 @@
 use Rattle.std.specs.Prelude.{ℕ, ◌+◌, ◌-◌, ◌*◌, ◌/◌, min, max, Bool, not, cond, ◌&&◌, List, map, leb, bytes_eq, Result, Ok, Err}
 use Rattle.std.specs.List.{list_all}
 use Rattle.answers.specs.Refusals.{number_of}
-use Rattle.answers.specs.declared.Refusal.{Refusal}
 use Rattle.quant.specs.Tables.{fours, perceptual_luma, perceptual_chroma, proxy_luma, proxy_chroma, lt_weights, standard_weights, hq_weights}
+use Rattle.quant.specs.declared.NoBlend.{NoBlend}
 use Rattle.quant.specs.declared.QuantMatrices.{QuantMatrices}
 
 -- ---- tables
@@ -74,10 +74,10 @@ pub record Blending : Type 0 where
 abbrev pub answered : BlendAnswer → QuantMatrices → Blending
 answered a m = record { answer = a; pair = m }
 
--- what an answer says; a refusal brings no pair, and the flat one stands for it
-abbrev pub told_blend : Result QuantMatrices Refusal → Blending
+-- what an answer says; a refusal brings a pair as well
+abbrev pub told_blend : Result QuantMatrices NoBlend → Blending
 told_blend (Ok m) = answered blends m
-told_blend (Err why) = answered (no_blend (number_of why)) flat_pair
+told_blend (Err none) = answered (no_blend (number_of none.why)) none.pair
 
 -- any number but 1 to 8 is an unknown selector, and the pair is then the flat one
 unfoldable pub blend_of : ℕ → Blending

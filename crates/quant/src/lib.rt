@@ -17,6 +17,13 @@ pub struct QuantMatrices {
     pub chroma: [u8; 64],
 }
 
+// Why there is no blend, and the pair that stands in its place: the flat one.
+#[derive(Clone, Copy, Debug, PartialEq, Eq)]
+pub struct NoBlend {
+    pub why: Refusal,
+    pub pair: QuantMatrices,
+}
+
 impl QuantMatrices {
     // What a stream has that carries no tables.
     pub fn flat() -> Self
@@ -106,18 +113,21 @@ impl QuantMatrices {
 
     // The perceptual pair, blended with fours: number 8 is the perceptual pair itself, 1 is close to flat.
     #[tactic(auto, unfolding(crate::specs::Weights::blend_of))]
-    pub fn blend(number: usize) -> Result<Self, Refusal>
+    pub fn blend(number: usize) -> Result<Self, NoBlend>
         ensures { told_blend result ≡ blend_of number }
     {
         match number {
             1..=8 => {
-                let p = number as u32;
+                let p = number as u16;
                 Ok(Self {
                     luma: weights::blend_table(p, tables::PERCEPTUAL_LUMA_QMAT),
                     chroma: weights::blend_table(p, tables::PERCEPTUAL_CHROMA_QMAT),
                 })
             }
-            _ => Err(Refusal::Selector),
+            _ => Err(NoBlend {
+                why: Refusal::Selector,
+                pair: Self::flat(),
+            }),
         }
     }
 }

@@ -2,7 +2,7 @@
 // all zero where a component is refused.
 #![tactic(auto)]
 
-ghost use Rattle.std.specs.Prelude.{◌≡◌, ◌*◌, ◌≤◌, pos, length, take};
+ghost use Rattle.std.specs.Prelude.{◌≡◌, ◌*◌, ◌≤◌, pos, length, take, drop};
 ghost use Rattle.answers.specs.Told.{reached_says};
 ghost use Rattle.bitstream.specs.Told.{payload_limit};
 ghost use Rattle.entropy_elements.specs.Answers.{reading_of};
@@ -11,6 +11,7 @@ ghost use Rattle.slice_shape.specs.Arguments.{TakenSlice};
 ghost use Rattle.slice_shape.specs.Decoding.{slice_decoding, slice_reading_of};
 ghost use Rattle.slice_shape.specs.Shapes.{chroma_blocks, component_limit, component_list, zero_lists, InSliceLimits};
 ghost use Rattle.slice_shape.specs.Told.{told_decoded_slice};
+ghost use Rattle.slice_reading.specs.Due.{Spared};
 ghost use Rattle.slice_reading.specs.Settled.{settled_slice};
 
 use answers::Refusal;
@@ -21,7 +22,8 @@ use slice_shape::{COMPONENT_LIST, SliceRefusal, SliceShape};
 // The reading of one component, to the start of a list that is long enough for any.
 fn read_component(payload: &[u8], blocks: usize, list: &mut [i32]) -> Result<usize, Refusal>
     requires { (length payload.now ≤ payload_limit) × (blocks ≤ component_limit) × (list.old ≡ nil component_list) }
-    ensures { reached_says (pos 0) (64 * blocks) result (take (64 * blocks) list.new) ≡ reading_of payload.now blocks }
+    ensures read { reached_says (pos 0) (64 * blocks) result (take (64 * blocks) list.new) ≡ reading_of payload.now blocks }
+    ensures rest { drop (64 * blocks) list.new ≡ drop (64 * blocks) list.old }
 {
     entropy_reading::read_all(payload, blocks, &mut list[..64 * blocks])
 }
@@ -44,7 +46,8 @@ impl<'a> SlicePayloads<'a> {
         lists: &mut Components<[i32; COMPONENT_LIST]>,
     ) -> Result<Components<usize>, SliceRefusal>
         requires { lists.old ≡ zero_lists }
-        ensures { settled_slice self.entry.shape (told_decoded_slice result) lists.new ≡ slice_reading_of self.entry.payloads.y.now self.entry.payloads.cb.now self.entry.payloads.cr.now self.entry.shape.macroblocks self.entry.shape.chroma self.entry.shape.scan }
+        ensures slice { settled_slice self.entry.shape (told_decoded_slice result) lists.new ≡ slice_reading_of self.entry.payloads.y.now self.entry.payloads.cb.now self.entry.payloads.cr.now self.entry.shape.macroblocks self.entry.shape.chroma self.entry.shape.scan }
+        ensures spared { Spared self.entry.shape self.entry.payloads.y.now self.entry.payloads.cb.now lists.new }
     {
         let mbs = self.shape.macroblocks;
         let c = slice_shape::chroma_blocks(self.shape.chroma);

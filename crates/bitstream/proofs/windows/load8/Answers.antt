@@ -1,7 +1,7 @@
 -- `bitstream::windows::load8` meets its contract.
-use mathlib.Core.Path.{sym, ◌∙◌}
+use native.Mathlib.Omega.{arith}
 use Rattle.bitstream.proofs.PlaceLaws.{load-eight}
 use Rattle.bitstream.proofs.windows.load8.Goals as goal
 
 pub returns : goal.returns
-returns c = let a = c.args in c.from_be_bytes.ensures ∙ sym (load-eight a.payload.now a.i c.requires (λ k. (c.type_inv.payload k).fits))
+returns c = let a = c.args in omega (arith, c.from_be_bytes.ensures, load-eight a.payload.now a.i c.requires (λ k. (c.type_inv.payload k).fits))

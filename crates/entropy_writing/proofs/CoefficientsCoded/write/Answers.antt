@@ -1,13 +1,6 @@
 use native.Mathlib.Omega.{arith}
-use Rattle.bitstream_writer.proofs.PassLaws.{puts_stored}
 use Rattle.entropy_writing.proofs.WritingLaws.{encode-le}
 use Rattle.entropy_writing.proofs.CoefficientsCoded.write.Goals as goal
 
-pub code-requires : goal.code-requires
-code-requires c = let f = c.args.self.now.encodable in record { inside = c.requires; below = omega (arith, encode-le f, f.few) }
-
 pub returns-clause-small : goal.returns-clause-small
-returns-clause-small c = let f = c.args.self.now.encodable in omega (arith, c.code.ensures.next, encode-le f, f.few)
-
-pub returns-clause-buffer : goal.returns-clause-buffer
-returns-clause-buffer c = puts_stored c.code.ensures
+returns-clause-small c = let f = c.args.self.now.encodable in omega (arith, c.write.ensures.count, encode-le f, f.few)

@@ -2,9 +2,6 @@ use Rattle.bitstream.proofs.PutLaws.{puts_then}
 use Rattle.bitstream_writer.proofs.WordLaws.{puts_word}
 use Rattle.bitstream_writer.proofs.passes.WritingPass.put_pair.Goals as goal
 
-pub returns-then-front-behind-le56 : goal.returns-then-front-behind-le56
-returns-then-front-behind-le56 c = rw (← c.join-w.ensures.is) (puts_word c.join-w.result c.put.ensures.next c.put.ensures.buffer)
-
 pub returns-else-front-behind-le56 : goal.returns-else-front-behind-le56
 returns-else-front-behind-le56 c =
     let one = c.put_word-mid.ensures in

@@ -23,7 +23,9 @@ pub put-at-requires : goal.put-at-requires
 put-at-requires g c =
     let l = c.loop-rest in
     let pair = c.pair_of-pair.ensures in
-    (omega (arith, pair.short), rw l.auto.out (word-room g.met.P.Pass.laws l.invariant.laying _ _ pair.is _ refl (omega arith) c.requires.2))
+    let word = c.pair_of-pair.result.word in
+    let laws = g.met.P.Pass.laws in
+    (omega (arith, pair.short), rw l.auto.out (laws.less (omega arith) (word-room laws l.invariant.laying _ _ pair.is word refl (omega arith) c.requires.2)))
 
 pub offset_bounds-rest-pair : goal.offset_bounds-rest-pair
 offset_bounds-rest-pair g c = omega (arith, c.pair_of-pair.ensures.inside, c.loop-rest.invariant.few)

@@ -16,7 +16,8 @@ cb_due s y = due_behind (reading_of y (s.macroblocks * 4)).answer (s.macroblocks
 abbrev pub cr_due : SliceShape → List ℕ → List ℕ → ℕ
 cr_due s y cb = due_behind (reading_of cb (s.macroblocks * chroma_blocks s.chroma)).answer (cb_due s y)
 
--- nothing but what is due is read: the lists of Cb and Cr, of zeros at first, are behind it as they were
+-- the lists of Cb and Cr, of zeros at first, are behind what is due as they were: nothing more was read into them. Of a reading that is thrown away this
+-- says nothing.
 pub record Spared (s : SliceShape) (from-y from-cb : List ℕ) (lists : Components (List ℤ)) : Type 0 where
   pub cb : drop (64 * cb_due s from-y) lists.cb ≡ drop (64 * cb_due s from-y) zero_lists.cb
   pub cr : drop (64 * cr_due s from-y from-cb) lists.cr ≡ drop (64 * cr_due s from-y from-cb) zero_lists.cr
